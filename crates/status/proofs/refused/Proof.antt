@@ -1,0 +1,11 @@
+-- `refused` meets its contract, by computation.
+-- Assumes nothing.
+use mathlib.Core.Path.{refl}
+use Rattle.status.proofs.refused.Statement.{statement}
+use Rattle.status.proofs.refused.Tie as tie
+
+returns : tie.Need-returns
+returns c = refl
+
+pub refused-spec : {M : Type 1} → statement M
+refused-spec = tie.close (tie.spec returns)

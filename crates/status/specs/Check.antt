@@ -1,0 +1,14 @@
+-- Checks in order: the first that applies decides.
+use mathlib.Core.Bool.{Bool, true, false}
+use mathlib.Core.Option.{Option, none, some}
+use Rattle.status.specs.declared.Status.{Status}
+
+-- the status x unless the test holds
+abbrev pub unless : Bool → Status → Option Status
+unless true x = none
+unless false x = some x
+
+-- the first of two checks that applies
+abbrev pub else : Option Status → Option Status → Option Status
+else none next = next
+else (some x) next = some x

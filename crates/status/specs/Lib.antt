@@ -1,0 +1,4 @@
+pub mod Number
+pub mod Check
+pub mod Reply
+pub mod Result
