@@ -1,0 +1,49 @@
+// Reads a reply from a descriptor and writes its listing to standard output.
+ghost use lib.ListN.{length};
+ghost use Rattle.list_input.specs.Input.{Within};
+use libc::STDOUT_FILENO;
+
+// What reading an input to its end found: how many bytes there were, or that a read failed.
+pub enum Input {
+    Bytes(usize),
+    Failed,
+}
+
+// Reads until the input ends or `buf` is full, in as many reads as that takes. Which bytes come no contract can say, so it
+// says only that they lie in the buffer.
+pub fn read_all(fd: i32, buf: &mut [u8]) -> Input
+    ensures { λ r. ⌜ Within (length (now (buf .entry))) r ⌝ }
+{
+    let mut done = 0;
+    while done < buf.len() {
+        let got = libc::read(fd, &mut buf[done..]);
+        if got < 0 {
+            return Input::Failed;
+        }
+        let n = io::count(got, &buf[done..]);
+        if n == 0 {
+            return Input::Bytes(done);
+        }
+        done += n;
+    }
+    Input::Bytes(done)
+}
+
+// Lists the reply that `fd` holds. The buffer has a byte more than a reply may have, to tell a reply that is too long.
+// No contract can speak of what the system reads or writes: all that is decided about the bytes is `list_reply`'s.
+pub fn list(fd: i32)
+    ensures { λ _. ⊤ₛ }
+{
+    let mut input = [0u8; 65537];
+    let read = read_all(fd, &mut input);
+    let Input::Bytes(n) = read else {
+        os::fail(b"read");
+        return;
+    };
+    let mut text = [0u8; 131138];
+    let answer = usn_listing::list_reply(&mut text, &input[..n]);
+    let count = answer.count;
+    if !io::write_all(STDOUT_FILENO, &text[..count]) {
+        os::fail(b"write");
+    }
+}
