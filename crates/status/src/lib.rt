@@ -54,3 +54,13 @@ pub fn refused(s: Status) -> Answer
         count: 0,
     }
 }
+
+// The answer of a call that wrote `count` bytes.
+pub fn success(count: usize) -> Answer
+    ensures { λ r. ⌜ r ≡ record { status = Status.Success; count = count } ⌝ }
+{
+    Answer {
+        status: Status::Success,
+        count,
+    }
+}

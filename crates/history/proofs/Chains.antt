@@ -1,0 +1,269 @@
+-- Filters over chains of records, the edges behind which a reader reads, and the page that a read takes from there.
+-- Assumes nothing.
+use mathlib.Core.Path.{_≡_, refl, sym, ap, ap₂, _∙_, subst₂}
+use mathlib.Core.Logic.{_⊎_, inl, inr}
+use mathlib.Core.Bool.{Bool, true, false, cond, _&&_}
+use mathlib.Core.Option.{none, some}
+use mathlib.Core.List.{List, [], _∷_, _++_, List·Memᴰ, List·Memᴰ·head, List·Memᴰ·tail, List·Memᴰ·not-nil, List·Memᴰ·cases-cons, append-assoc}
+use Prim.Native.Nat.{ℕ, _-_, _≤_, _<_}
+use native.Mathlib.Omega.{arith}
+use lib.Dec.{ltb, eqb}
+use lib.ListN.{length}
+use borrow.Author.Tests.{ltb-true, ltb-false, eqb-true, lt-ltb, le-ltb, le-leb, lt-leb, eq-eqb, ne-eqb}
+use Rattle.usn_record.specs.declared.Version.{Version}
+use Rattle.usn_record.specs.Layout.{Record, lengthOf}
+use Rattle.journal.specs.Edge.{behind}
+use Rattle.journal_read.specs.declared.Filter.{Filter}
+use Rattle.journal_read.specs.Select.{selects}
+use Rattle.journal_read.specs.Page.{inVersion, fits, Page, turn, pageOf, empty}
+use Rattle.history.specs.Demand.{keep, filter, between, above}
+use Rattle.history.proofs.Links.{Chain, chain-le, link-rises, link-short}
+
+-- ---- filters
+
+pub filter-append : (f : Record → Bool) (l m : List Record) → filter f (l ++ m) ≡ filter f l ++ filter f m
+filter-append f [] m = refl
+filter-append f (r ∷ rs) m = go (f r) (filter-append f rs m)
+  where
+    go : (b : Bool) → filter f (rs ++ m) ≡ filter f rs ++ filter f m → keep b r (filter f (rs ++ m)) ≡ keep b r (filter f rs) ++ filter f m
+    go true ih = ap (λ (t : List Record). r ∷ t) ih
+    go false ih = ih
+
+pub filter-chain : (f g : Record → Bool) (p : ℕ) (l : List Record) (e : ℕ) → Chain p l e
+    → ((r : Record) → p < r .fields .usn → r .fields .usn ≤ e → f r ≡ g r) → filter f l ≡ filter g l
+filter-chain f g p [] e h same = refl
+filter-chain f g p (r ∷ rs) e h same =
+    ap₂ (λ (b : Bool) (t : List Record). keep b r t) (same r (link-rises p r (h .0)) (chain-le (r .fields .usn) rs e (h .1)))
+    (filter-chain f g (r .fields .usn) rs e (h .1) (λ x lo hi. same x (omega (arith, link-rises p r (h .0))) hi))
+
+pub filter-all : (l : List Record) → filter (λ (r : Record). true) l ≡ l
+filter-all [] = refl
+filter-all (r ∷ rs) = ap (λ (t : List Record). r ∷ t) (filter-all rs)
+
+pub filter-none : (l : List Record) → filter (λ (r : Record). false) l ≡ []
+filter-none [] = refl
+filter-none (r ∷ rs) = filter-none rs
+
+pub and-false : (b : Bool) → b && false ≡ false
+and-false true = refl
+and-false false = refl
+
+pub between-append : (a b : ℕ) (l m : List Record) → between a b (l ++ m) ≡ between a b l ++ between a b m
+unfolding between
+between-append a b l m = filter-append _ l m
+
+module _ (a b p : ℕ) (l : List Record) (e : ℕ) (h : Chain p l e) where
+  pub between-all : a ≤ p → e ≤ b → between a b l ≡ l
+  unfolding between
+  between-all k j =
+      filter-chain _ (λ (r : Record). true) p l e h (λ r lo hi. rw (lt-ltb a (r .fields .usn) (omega arith), le-leb (r .fields .usn) b (omega arith)))
+      ∙ filter-all l
+
+  pub between-high : b ≤ p → between a b l ≡ []
+  unfolding between
+  between-high k =
+      filter-chain _ (λ (r : Record). false) p l e h (λ r lo hi. rw (lt-leb (r .fields .usn) b (omega arith)) (and-false (ltb a (r .fields .usn))))
+      ∙ filter-none l
+
+  pub between-top : (c : ℕ) → e ≤ b → e ≤ c → between a b l ≡ between a c l
+  unfolding between
+  between-top c k j = filter-chain _ _ p l e h (λ r lo hi. rw (le-leb (r .fields .usn) b (omega arith), le-leb (r .fields .usn) c (omega arith)))
+
+pub above-low : (a p : ℕ) (l : List Record) (e : ℕ) → Chain p l e → e ≤ a → above a l ≡ []
+unfolding above
+above-low a p l e h k = filter-chain _ (λ (r : Record). false) p l e h (λ r lo hi. le-ltb a (r .fields .usn) (omega arith)) ∙ filter-none l
+
+pub above-all : (a p : ℕ) (l : List Record) (e : ℕ) → Chain p l e → a ≤ p → above a l ≡ l
+unfolding above
+above-all a p l e h k = filter-chain _ (λ (r : Record). true) p l e h (λ r lo hi. lt-ltb a (r .fields .usn) (omega arith)) ∙ filter-all l
+
+pub above-append : (a : ℕ) (l m : List Record) → above a (l ++ m) ≡ above a l ++ above a m
+unfolding above
+above-append a l m = filter-append _ l m
+
+-- ---- edges
+
+pub behind-here : (f p : ℕ) (l : List Record) → f ≡ p → behind f p l ≡ some l
+unfolding behind
+behind-here f p [] h = rw (eq-eqb f p h)
+behind-here f p (r ∷ rs) h = rw (eq-eqb f p h)
+
+pub behind-next : (f p : ℕ) (r : Record) (l : List Record) → f < p → behind f p (r ∷ l) ≡ behind (r .fields .usn) p l
+unfolding behind
+behind-next f p r l h = rw (ne-eqb f p (λ q. omega arith))
+
+pub behind-drop : (b : ℕ) (d : List Record) (f p : ℕ) (l : List Record) → Chain b d f → f ≤ p → behind b p (d ++ l) ≡ behind f p l
+behind-drop b [] f p l h k = ap (λ (x : ℕ). behind x p l) h
+behind-drop b (r ∷ rs) f p l h k =
+    behind-next b p r (rs ++ l) (omega (arith, link-rises b r (h .0), chain-le (r .fields .usn) rs f (h .1)))
+    ∙ behind-drop (r .fields .usn) rs f p l (h .1) k
+
+-- a list split at an edge
+pub record Edge (f p : ℕ) (l t : List Record) (e : ℕ) : Type 0 where
+  pub before : List Record
+  pub parts : l ≡ before ++ t
+  pub upto : Chain f before p
+  pub beyond : Chain p t e
+
+some-inj : {A : Type 0} (a b : A) → some a ≡ some b → a ≡ b
+some-inj a b h = cc
+
+none-some : {A : Type 0} (a : A) → none ≡ some a → ⊥
+none-some a h = let z : _≡_ {A = ℕ} 0 1 = cc in omega arith
+
+edge-here : (f p : ℕ) (l t : List Record) (e : ℕ) → Chain f l e → eqb f p ≡ true → some l ≡ some t → Edge f p l t e
+edge-here f p l t e h q k =
+    record {
+      before = [];
+      parts = some-inj l t k;
+      upto = eqb-true f p q;
+      beyond = subst₂ (λ (x : ℕ) (y : List Record). Chain x y e) (eqb-true f p q) (some-inj l t k) h;
+    }
+
+pub edge : (f p : ℕ) (l t : List Record) (e : ℕ) → Chain f l e → behind f p l ≡ some t → Edge f p l t e
+unfolding behind
+edge f p [] t e h k = go (eqb f p) refl k
+  where
+    go : (b : Bool) → eqb f p ≡ b → cond b (some []) none ≡ some t → Edge f p [] t e
+    go true q k = edge-here f p [] t e h q k
+    go false q k = absurd (none-some t k)
+edge f p (r ∷ rs) t e h k = go (eqb f p) refl k (edge (r .fields .usn) p rs t e (h .1))
+  where
+    go : (b : Bool) → eqb f p ≡ b → cond b (some (r ∷ rs)) (behind (r .fields .usn) p rs) ≡ some t
+        → (behind (r .fields .usn) p rs ≡ some t → Edge (r .fields .usn) p rs t e)
+        → Edge f p (r ∷ rs) t e
+    go true q k ih = edge-here f p (r ∷ rs) t e h q k
+    go false q k ih =
+        let g = ih k in
+        record { before = r ∷ g .before; parts = ap (λ (x : List Record). r ∷ x) (g .parts); upto = (h .0, g .upto); beyond = g .beyond }
+
+-- the edge found again, behind what stood before it
+pub behind-edge : (f p : ℕ) (l t : List Record) → Chain f l p → behind f p (l ++ t) ≡ some t
+behind-edge f p l t h = behind-drop f l p p t h (omega arith) ∙ behind-here p p t refl
+
+pub behind-append : (f p : ℕ) (l t m : List Record) (e : ℕ) → Chain f l e → behind f p l ≡ some t → behind f p (l ++ m) ≡ some (t ++ m)
+behind-append f p l t m e h k =
+    let g = edge f p l t e h k in
+    ap (λ (x : List Record). behind f p (x ++ m)) (g .parts)
+    ∙ ap (behind f p) (append-assoc (g .before) t m)
+    ∙ behind-edge f p (g .before) (t ++ m) (g .upto)
+
+pub mem-range : (f : ℕ) (l : List Record) (e : ℕ) (r : Record) → Chain f l e → List·Memᴰ r l → (f < r .fields .usn) × (r .fields .usn ≤ e)
+mem-range f [] e r h m = absurd (List·Memᴰ·not-nil m)
+mem-range f (x ∷ xs) e r h m = go (List·Memᴰ·cases-cons m) (mem-range (x .fields .usn) xs e r (h .1))
+  where
+    go : (r ≡ x) ⊎ List·Memᴰ r xs → (List·Memᴰ r xs → (x .fields .usn < r .fields .usn) × (r .fields .usn ≤ e))
+        → (f < r .fields .usn) × (r .fields .usn ≤ e)
+    go (inl q) ih =
+        let u : r .fields .usn ≡ x .fields .usn = ap (λ (y : Record). y .fields .usn) q in
+        (omega (arith, link-rises f x (h .0)), omega (arith, chain-le (x .fields .usn) xs e (h .1)))
+    go (inr n) ih = (omega (arith, link-rises f x (h .0), ih n .0), ih n .1)
+
+pub behind-mem : (f : ℕ) (l : List Record) (e : ℕ) (r : Record) → Chain f l e → List·Memᴰ r l
+    → (t : List Record) × (behind f (r .fields .usn) l ≡ some t)
+behind-mem f [] e r h m = absurd (List·Memᴰ·not-nil m)
+behind-mem f (x ∷ xs) e r h m = go (List·Memᴰ·cases-cons m) (behind-mem (x .fields .usn) xs e r (h .1))
+  where
+    next : behind f (r .fields .usn) (x ∷ xs) ≡ behind (x .fields .usn) (r .fields .usn) xs
+    next = behind-next f (r .fields .usn) x xs (mem-range f (x ∷ xs) e r h m .0)
+
+    go : (r ≡ x) ⊎ List·Memᴰ r xs → (List·Memᴰ r xs → (t : List Record) × (behind (x .fields .usn) (r .fields .usn) xs ≡ some t))
+        → (t : List Record) × (behind f (r .fields .usn) (x ∷ xs) ≡ some t)
+    go (inl q) ih = (xs, next ∙ behind-here (x .fields .usn) (r .fields .usn) xs (ap (λ (y : Record). y .fields .usn) (sym q)))
+    go (inr n) ih = let k = ih n in (k .0, next ∙ k .1)
+
+-- a record above p, if the chain goes on above p
+pub some-above : (f : ℕ) (l : List Record) (e p : ℕ) → Chain f l e → f ≤ p → p < e → (r : Record) × List·Memᴰ r l × (p < r .fields .usn)
+some-above f [] e p h lo hi = absurd (omega arith)
+some-above f (x ∷ xs) e p h lo hi = go (ltb p (x .fields .usn)) refl (some-above (x .fields .usn) xs e p (h .1))
+  where
+    go : (b : Bool) → ltb p (x .fields .usn) ≡ b
+        → (x .fields .usn ≤ p → p < e → (r : Record) × List·Memᴰ r xs × (p < r .fields .usn))
+        → (r : Record) × List·Memᴰ r (x ∷ xs) × (p < r .fields .usn)
+    go true q ih = (x, List·Memᴰ·head refl, ltb-true p (x .fields .usn) q)
+    go false q ih = let k = ih (ltb-false p (x .fields .usn) q) hi in (k .0, List·Memᴰ·tail (k .1), k .2)
+
+-- ---- the read loop
+
+pub record Split (f : Filter) (p : ℕ) (l : List Record) (e : ℕ) (c : Page) : Type 0 where
+  pub taken : List Record
+  pub remain : List Record
+  pub parts : l ≡ taken ++ remain
+  pub upto : Chain p taken (c .position)
+  pub beyond : Chain (c .position) remain e
+  pub given : c .given ≡ filter (selects f) taken
+  pub whole : c .cut ≡ false → c .position ≡ e
+  pub waiting : c .cut ≡ true → 1 ≤ length (filter (selects f) remain)
+
+false-true : {A : Type 0} → false ≡ true → A
+false-true q = absurd (let z : _≡_ {A = ℕ} 0 1 = cc in omega arith)
+
+module _ (f : Filter) (p : ℕ) (r : Record) (rs : List Record) (e : ℕ) (h : Chain p (r ∷ rs) e) where
+  split-turn : (b₁ b₂ : Bool) (passed taken : Page) → selects f r ≡ b₁
+      → Split f (r .fields .usn) rs e passed → Split f (r .fields .usn) rs e taken
+      → Split f p (r ∷ rs) e (turn b₁ b₂ r p passed taken)
+  split-turn false b₂ passed taken q s t =
+      record {
+        taken = r ∷ s .taken;
+        remain = s .remain;
+        parts = ap (λ (x : List Record). r ∷ x) (s .parts);
+        upto = (h .0, s .upto);
+        beyond = s .beyond;
+        given = rw q (s .given);
+        whole = s .whole;
+        waiting = s .waiting;
+      }
+  split-turn true true passed taken q s t =
+      record {
+        taken = r ∷ t .taken;
+        remain = t .remain;
+        parts = ap (λ (x : List Record). r ∷ x) (t .parts);
+        upto = (h .0, t .upto);
+        beyond = t .beyond;
+        given = rw q (ap (λ (x : List Record). r ∷ x) (t .given));
+        whole = t .whole;
+        waiting = t .waiting;
+      }
+  split-turn true false passed taken q s t =
+      record {
+        taken = [];
+        remain = r ∷ rs;
+        parts = refl;
+        upto = refl;
+        beyond = h;
+        given = refl;
+        whole = λ z. false-true (sym z);
+        waiting = λ z. rw q (omega arith);
+      }
+
+pub split : (v : Version) (f : Filter) (room p : ℕ) (l : List Record) (e : ℕ) → Chain p l e → Split f p l e (pageOf v f room p l)
+unfolding pageOf
+split v f room p [] e h =
+    record {
+      taken = [];
+      remain = [];
+      parts = refl;
+      upto = refl;
+      beyond = h;
+      given = refl;
+      whole = λ z. h;
+      waiting = λ z. false-true z;
+    }
+split v f room p (r ∷ rs) e h =
+    split-turn f p r rs e h (selects f r) (fits v room r) _ _ refl (split v f room (r .fields .usn) rs e (h .1))
+    (split v f (room - lengthOf (inVersion v r)) (r .fields .usn) rs e (h .1))
+
+-- with room for the longest record the first selected one fits
+pub first-fits : (v : Version) (f : Filter) (room p : ℕ) (l : List Record) (e : ℕ) → Chain p l e → 592 ≤ room
+    → pageOf v f room p l .cut && empty (pageOf v f room p l .given) ≡ false
+unfolding pageOf fits
+first-fits v f room p [] e h k = refl
+first-fits v f room p (r ∷ rs) e h k =
+    rw (le-leb (lengthOf (inVersion v r)) room (omega (arith, link-short p r (h .0) v)))
+    (go (selects f r) (first-fits v f room (r .fields .usn) rs e (h .1) k))
+  where
+    go : (b : Bool) → pageOf v f room (r .fields .usn) rs .cut && empty (pageOf v f room (r .fields .usn) rs .given) ≡ false
+        → turn b true r p (pageOf v f room (r .fields .usn) rs) (pageOf v f (room - lengthOf (inVersion v r)) (r .fields .usn) rs) .cut
+        && empty (turn b true r p (pageOf v f room (r .fields .usn) rs) (pageOf v f (room - lengthOf (inVersion v r)) (r .fields .usn) rs) .given) ≡ false
+    go true ih = and-false (pageOf v f (room - lengthOf (inVersion v r)) (r .fields .usn) rs .cut)
+    go false ih = ih

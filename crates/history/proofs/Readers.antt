@@ -1,0 +1,447 @@
+-- A reader's reads against the history: what it is handed, when it is told that entries are deleted, and how it gets on.
+-- Assumes nothing.
+use mathlib.Core.Path.{_≡_, refl, sym, ap, ap₂, _∙_, subst}
+use mathlib.Core.Logic.{_⊎_, inl, inr, _↔_}
+use mathlib.Core.Bool.{Bool, true, false, not, cond, _&&_, _||_}
+use mathlib.Core.Option.{Option, none, some}
+use mathlib.Core.List.{List, [], _∷_, _++_, map, append-assoc, append-nil}
+use Prim.Native.Nat.{ℕ, _+_, _-_, _^_, _≤_, _<_}
+use native.Mathlib.Omega.{arith}
+use lib.Dec.{ltb, eqb}
+use lib.ListN.{length, drop, length-append}
+use lib.Seq.{take-at, drop-at}
+use borrow.Author.Tests.{ltb-true, ltb-false, eqb-true, lt-ltb, le-ltb, lt-leb, ne-eqb}
+use Rattle.le.specs.Numbers.{le, numberAt}
+use Rattle.le.proofs.Numbers.{unle-le, length-le}
+use Rattle.le.proofs.Runs.{and-left, and-right}
+use Rattle.status.specs.declared.Status.{Status}
+use Rattle.status.specs.declared.Status.the-variants.{Success, BufferOverflow, InvalidParameter, InvalidDeviceRequest, BufferTooSmall, DiskFull, FileCorruptError, NotAReparsePoint, VolumeNotUpgraded, JournalDeleteInProgress, JournalNotActive, JournalEntryDeleted}
+use Rattle.status.specs.Number.{number}
+use Rattle.status.specs.Check.{unless, else}
+use Rattle.status.specs.Reply.{Reply, refuse, give, guard, answer}
+use Rattle.volume.specs.declared.Volume.{Volume}
+use Rattle.volume.specs.State.{supported, isActive, isDeleting, activeCheck, goodCapacity}
+use Rattle.usn_record.specs.declared.Version.{Version}
+use Rattle.usn_record.specs.Layout.{Record}
+use Rattle.reply_walker.specs.Reply.{positionOf, joined, records}
+use Rattle.journal.specs.Kept.{keptBytes, inChain, goodMarks, sound, kept}
+use Rattle.journal.specs.Edge.{behind}
+use Rattle.journal_read.specs.declared.Filter.{Filter}
+use Rattle.journal_read.specs.Input.{filterOf, versionOf, argumentCheck}
+use Rattle.journal_read.specs.Select.{selects}
+use Rattle.journal_read.specs.Page.{inVersion, Page, pageOf, empty, pageBytes, pageReply}
+use Rattle.journal_read.specs.Read.{isDeleted, origin, deletedCheck, answerFrom, readAnswer, readCheck, readReply}
+use Rattle.history.specs.Calls.{Read, Journal, replyTo, next, Typed, AllTyped}
+use Rattle.history.specs.Log.{History, posted, note, notes}
+use Rattle.history.specs.Reading.{Sheet, Reader, moved, told, Turn, mine, other, callOf, hears, follow, Carries, Own, Chosen, Hold}
+use Rattle.history.specs.Demand.{filter, between, Refuses, NoCreation, DroppedAbove, isNone, wellFormed}
+use Rattle.history.proofs.Links.{Chain, chain-le, chain-append}
+use Rattle.history.proofs.Sim.{Live, usable, Sim, Grow}
+use Rattle.history.proofs.Chains.{filter-append, between-append, between-high, between-all, between-top, behind-drop, behind-edge, behind-append, Edge, edge, mem-range, some-above, Split, split}
+use Rattle.history.proofs.Simulate.{kept-live, sound-live, sim-step}
+
+pub clash : {A : Type 0} → _≡_ {A = ℕ} 0 1 → A
+clash z = absurd (omega arith)
+
+pub whole : (j : Journal) (h : History) → Sim j h → Chain (h .base) (posted h) (h .end)
+whole j h m = chain-append (h .base) (h .dropped) (h .first) (h .left) (h .end) (m .gone) (m .here)
+
+-- ---- sheets
+
+-- one more sheet holds the records that are its bytes
+pub hold-more : (sheets : List Sheet) (rs more : List Record) (s : Sheet) → Hold sheets rs → s .bytes ≡ joined (map (inVersion (s .version)) more)
+    → Hold (sheets ++ (s ∷ [])) (rs ++ more)
+hold-more [] rs more s k b = (more, [], ap (λ (x : List Record). x ++ more) k ∙ sym (append-nil more), b, refl)
+hold-more (x ∷ sheets) rs more s k b = (
+  k .0,
+  k .1 ++ more,
+  ap (λ (y : List Record). y ++ more) (k .2) ∙ append-assoc (k .0) (k .1) more,
+  k .3,
+  hold-more sheets (k .1) more s (k .4) b,
+)
+
+-- ---- a reader that stands rightly in the history
+
+pub record Stand (h : History) (d : Reader) : Type 0 where
+  pub handed : Hold (d .handed) (filter (selects (d .filter)) (between (d .start) (d .position) (posted h)))
+  pub rises : d .start ≤ d .position
+  pub positive : 0 < d .start
+  pub rest : List Record
+  pub edge : behind (h .base) (d .position) (posted h) ≡ some rest
+
+pub stand-edge : (j : Journal) (h : History) (d : Reader) → Sim j h → (t : Stand h d) → Edge (h .base) (d .position) (posted h) (t .rest) (h .end)
+stand-edge j h d m t = edge (h .base) (d .position) (posted h) (t .rest) (h .end) (whole j h m) (t .edge)
+
+-- it stays so while the history grows
+pub stand-grow : (j : Journal) (h k : History) (d : Reader) → Sim j h → Grow h k → Stand h d → Stand k d
+stand-grow j h k d m g t =
+    record {
+      handed = subst (Hold (d .handed)) (ap (filter (selects (d .filter))) (sym same)) (t .handed);
+      rises = t .rises;
+      positive = t .positive;
+      rest = t .rest ++ g .more;
+      edge =
+          ap₂ (λ (x : ℕ) (y : List Record). behind x (d .position) y) (g .base) (g .parts)
+          ∙ behind-append (h .base) (d .position) (posted h) (t .rest) (g .more) (h .end) (whole j h m) (t .edge);
+    }
+  where
+    same : between (d .start) (d .position) (posted k) ≡ between (d .start) (d .position) (posted h)
+    same =
+        ap (between (d .start) (d .position)) (g .parts)
+        ∙ between-append (d .start) (d .position) (posted h) (g .more)
+        ∙ ap (λ (x : List Record). between (d .start) (d .position) (posted h) ++ x)
+        (between-high (d .start) (d .position) (h .end) (g .more) (k .end) (g .chain) (chain-le (d .position) (t .rest) (h .end) (stand-edge j h d m t .beyond)))
+        ∙ append-nil (between (d .start) (d .position) (posted h))
+
+-- ---- the checks of a read
+
+guard-inv : (o : Option Status) (k : Reply) (x : Status) (bytes : List ℕ) → guard o k ≡ give x bytes → (o ≡ none) × (k ≡ give x bytes)
+guard-inv none k x bytes h = (refl, h)
+guard-inv (some y) k x bytes h = clash cc
+
+else-none : (o p : Option Status) → else o p ≡ none → (o ≡ none) × (p ≡ none)
+else-none none p h = (refl, h)
+else-none (some x) p h = clash cc
+
+unless-none : (b : Bool) (x : Status) → unless b x ≡ none → b ≡ true
+unless-none true x h = refl
+unless-none false x h = clash cc
+
+pub none-is : (o : Option Status) → isNone o ≡ true → o ≡ none
+none-is none h = refl
+none-is (some x) h = clash cc
+
+sound-buffer : (v : Volume) (ring : List ℕ) → sound v ring ≡ true → eqb (length ring) (v .capacity) ≡ true
+unfolding sound goodMarks
+sound-buffer v ring h =
+    and-left (eqb (length ring) (v .capacity)) _
+    (and-right (goodCapacity (v .capacity)) _ (and-left (goodMarks v (length ring)) (inChain (v .first) (records 0 (keptBytes v ring))) h))
+
+active-only : (v : Volume) → isActive v ≡ true → isDeleting v ≡ false
+active-only v e = let s : v .state ≡ 1 = eqb-true (v .state) 1 e in ne-eqb (v .state) 2 (λ q. omega arith)
+
+check-none : (v : Volume) (input : List ℕ) (room : ℕ) → supported (v .journal) ≡ true → isActive v ≡ true → argumentCheck (v .id) input room ≡ none
+    → readCheck v input room ≡ none
+check-none v input room s a c =
+    ap (λ (b : Bool). else (unless b InvalidDeviceRequest) (else (activeCheck v) (argumentCheck (v .id) input room))) s
+    ∙ ap₂ (λ (x y : Bool). else (else (unless (not x) JournalDeleteInProgress) (unless y JournalNotActive)) (argumentCheck (v .id) input room)) (active-only v a) a
+    ∙ c
+
+-- what a reply tells: the checks passed
+module _ (v : Volume) (ring input : List ℕ) (room : ℕ) (x : Status) (bytes : List ℕ) where
+  passed : readReply v ring input room ≡ give x bytes
+      → (supported (v .journal) && (isActive v && eqb (length ring) (v .capacity)) ≡ true) × (argumentCheck (v .id) input room ≡ none)
+  unfolding readReply
+  passed k =
+      let k₁ = guard-inv (readCheck v input room) (guard (unless (sound v ring) FileCorruptError) (readAnswer (v .first) (kept v ring) input room)) x bytes k in
+      let k₂ = guard-inv (unless (sound v ring) FileCorruptError) (readAnswer (v .first) (kept v ring) input room) x bytes (k₁ .1) in
+      let c₁ = else-none (unless (supported (v .journal)) InvalidDeviceRequest) (else (activeCheck v) (argumentCheck (v .id) input room)) (k₁ .0) in
+      let c₂ = else-none (activeCheck v) (argumentCheck (v .id) input room) (c₁ .1) in
+      let c₃ = else-none (unless (not (isDeleting v)) JournalDeleteInProgress) (unless (isActive v) JournalNotActive) (c₂ .0) in (
+        ap₂ (λ (p q : Bool). p && (q && eqb (length ring) (v .capacity))) (unless-none (supported (v .journal)) InvalidDeviceRequest (c₁ .0))
+            (unless-none (isActive v) JournalNotActive (c₃ .1))
+            ∙ sound-buffer v ring (unless-none (sound v ring) FileCorruptError (k₂ .0)),
+        c₂ .1,
+      )
+
+-- a reply comes only from a live journal, to a read whose arguments pass
+replied-live : (j : Journal) (h : History) (a : Read) (x : Status) (bytes : List ℕ) → Sim j h → replyTo j a ≡ give x bytes
+    → (h .live ≡ true) × (argumentCheck (h .id) (a .input) (a .room) ≡ none)
+replied-live j h a x bytes m k = by (h .live) refl (passed (j .volume) (j .ring) (a .input) (a .room) x bytes k)
+  where
+    by : (b : Bool) → h .live ≡ b → (usable j ≡ true) × (argumentCheck (j .volume .id) (a .input) (a .room) ≡ none)
+        → (h .live ≡ true) × (argumentCheck (h .id) (a .input) (a .room) ≡ none)
+    by true e c = (e, ap (λ (i : ℕ). argumentCheck i (a .input) (a .room)) (sym (m .live e .id)) ∙ c .1)
+    by false e c = let u : true ≡ false = sym (c .0) ∙ m .dead e in clash cc
+
+-- a read whose arguments pass, while the journal is live, is answered from the records left
+pub reply-live : (j : Journal) (h : History) → Sim j h → h .live ≡ true → (a : Read) → argumentCheck (h .id) (a .input) (a .room) ≡ none
+    → replyTo j a ≡ readAnswer (h .first) (h .left) (a .input) (a .room)
+unfolding readReply
+reply-live j h m v a ok =
+    let l = m .live v in
+    ap
+    (λ (o : Option Status). guard o
+    (guard (unless (sound (j .volume) (j .ring)) FileCorruptError) (readAnswer (j .volume .first) (kept (j .volume) (j .ring)) (a .input) (a .room))))
+    (check-none (j .volume) (a .input) (a .room) (l .supported) (l .active) (ap (λ (i : ℕ). argumentCheck i (a .input) (a .room)) (l .id) ∙ ok))
+    ∙ ap₂ (λ (x : Bool) (rs : List Record). guard (unless x FileCorruptError) (readAnswer (j .volume .first) rs (a .input) (a .room)))
+    (sound-live j h m l) (kept-live j h m l)
+    ∙ ap (λ (f : ℕ). readAnswer f (h .left) (a .input) (a .room)) (l .first)
+
+-- a read of the reader's own, with arguments that pass, while the journal is live
+module _ (j : Journal) (h : History) (m : Sim j h) (d : Reader) (t : Stand h d) (a : Read) (c : Carries d a) (v : h .live ≡ true)
+    (ok : argumentCheck (h .id) (a .input) (a .room) ≡ none) where
+  abbrev p : ℕ
+  p = d .position
+
+  base-low : h .base ≤ p
+  base-low = chain-le (h .base) (stand-edge j h d m t .before) p (stand-edge j h d m t .upto)
+
+  p-end : p ≤ h .end
+  p-end = chain-le p (t .rest) (h .end) (stand-edge j h d m t .beyond)
+
+  not-zero : eqb p 0 ≡ false
+  not-zero = ne-eqb p 0 (λ q. omega (arith, t .positive, t .rises))
+
+  deleted-is : isDeleted p (h .first) ≡ ltb p (h .first)
+  unfolding isDeleted
+  deleted-is =
+      ap₂ (λ (x y : Bool). not x && (y || ltb p (h .first))) not-zero (lt-leb (2 ^ 63) p (omega (arith, p-end, m .low)))
+
+  origin-is : origin p (h .first) ≡ p
+  unfolding origin
+  origin-is = ap (λ (x : Bool). cond x (h .first) p) not-zero
+
+  -- the reply by a test for deleted entries, a first position and an origin
+  abbrev by-marks : Bool → ℕ → ℕ → Reply
+  by-marks x f o =
+      guard (unless (not x) JournalEntryDeleted) (answerFrom (versionOf (a .input)) (filterOf (a .input)) (a .room - 8) o (behind f o (h .left)))
+
+  answered : replyTo j a ≡ by-marks (ltb p (h .first)) (h .first) p
+  unfolding readAnswer deletedCheck
+  answered =
+      reply-live j h m v a ok
+      ∙ ap (λ (s : ℕ). by-marks (isDeleted s (h .first)) (h .first) (origin s (h .first))) (c .0)
+      ∙ ap₂ (λ (x : Bool) (o : ℕ). by-marks x (h .first) o) deleted-is origin-is
+
+  told-deleted : p < h .first → replyTo j a ≡ refuse JournalEntryDeleted
+  told-deleted k = answered ∙ ap (λ (x : Bool). by-marks x (h .first) p) (lt-ltb p (h .first) k)
+
+  pub told-reply : h .first ≤ p → replyTo j a ≡ pageReply (versionOf (a .input)) (pageOf (versionOf (a .input)) (d .filter) (a .room - 8) p (t .rest))
+  told-reply k =
+      answered
+      ∙ ap (λ (x : Bool). by-marks x (h .first) p) (le-ltb p (h .first) k)
+      ∙ ap₂ (λ (f : Filter) (o : Option (List Record)). answerFrom (versionOf (a .input)) f (a .room - 8) p o) (c .1)
+      (sym (behind-drop (h .base) (h .dropped) (h .first) p (h .left) (m .gone) k) ∙ t .edge)
+
+-- ---- the clause on deleted entries
+
+abbrev code : Reply → ℕ
+code (refuse x) = number x
+code (give x bytes) = 0
+
+reply-refused : (v : Version) (page : Page) → pageReply v page ≡ refuse JournalEntryDeleted → ⊥
+unfolding pageReply
+reply-refused v page h = go (page .cut && empty (page .given)) (ap code h)
+  where
+    go : (x : Bool) → code (cond x (refuse BufferTooSmall) (give Success (le 8 (page .position) ++ pageBytes v page))) ≡ 0xC00002CF → ⊥
+    go true k = omega arith
+    go false k = omega arith
+
+pub deleted-iff : (j : Journal) (h : History) (d : Reader) → Sim j h → Stand h d → (a : Read) → Carries d a → wellFormed h a ≡ true
+    → (replyTo j a ≡ refuse JournalEntryDeleted) ↔ DroppedAbove h (d .position)
+unfolding wellFormed
+deleted-iff j h d m t a c w = (there, back)
+  where
+    v : h .live ≡ true
+    v = and-left (h .live) (isNone (argumentCheck (h .id) (a .input) (a .room))) w
+
+    ok : argumentCheck (h .id) (a .input) (a .room) ≡ none
+    ok = none-is (argumentCheck (h .id) (a .input) (a .room)) (and-right (h .live) (isNone (argumentCheck (h .id) (a .input) (a .room))) w)
+
+    there : replyTo j a ≡ refuse JournalEntryDeleted → DroppedAbove h (d .position)
+    there k = by (ltb (d .position) (h .first)) refl
+      where
+        by : (x : Bool) → ltb (d .position) (h .first) ≡ x → DroppedAbove h (d .position)
+        by true q =
+            let s = some-above (h .base) (h .dropped) (h .first) (d .position) (m .gone) (base-low j h m d t a c v ok) (ltb-true _ _ q) in
+            (s .0, s .1, omega (arith, s .2))
+        by false q = absurd (reply-refused _ _ (sym (told-reply j h m d t a c v ok (ltb-false _ _ q)) ∙ k))
+
+    back : DroppedAbove h (d .position) → replyTo j a ≡ refuse JournalEntryDeleted
+    back r =
+        told-deleted j h m d t a c v ok
+        (omega (arith, mem-range (h .base) (h .dropped) (h .first) (r .0) (m .gone) (r .1) .1, r .2))
+
+-- ---- a reply
+
+record Full (w : Version) (c : Page) (x : Status) (bytes : List ℕ) : Type 0 where
+  success : x ≡ Success
+  laid : bytes ≡ le 8 (c .position) ++ joined (map (inVersion w) (c .given))
+  full : c .cut && empty (c .given) ≡ false
+
+reply-inv : (w : Version) (c : Page) (x : Status) (bytes : List ℕ) → pageReply w c ≡ give x bytes → Full w c x bytes
+unfolding pageReply
+reply-inv w c x bytes h = go (c .cut && empty (c .given)) refl h
+  where
+    go : (b : Bool) → c .cut && empty (c .given) ≡ b → cond b (refuse BufferTooSmall) (give Success (le 8 (c .position) ++ pageBytes w c)) ≡ give x bytes → Full w c x bytes
+    go true e k = clash cc
+    go false e k = record { success = cc; laid = cc; full = e }
+
+-- a position and bytes behind it are read back
+position-back : (n : ℕ) (s : List ℕ) → n < 2 ^ 64 → positionOf (le 8 n ++ s) ≡ n
+unfolding numberAt
+position-back n s h = rw (take-at (le 8 n) s 8 (length-le 8 n)) (unle-le 8 n h)
+
+-- how a reader gets on by a reply that gives so many records
+pub record Advance (h : History) (d : Reader) (t : Stand h d) (a : Read) (bytes : List ℕ) : Type 0 where
+  pub next : Stand h (moved a bytes d)
+  pub count : ℕ
+  pub sum : length (filter (selects (d .filter)) (t .rest)) ≡ count + length (filter (selects (d .filter)) (next .rest))
+  pub rises : d .position ≤ positionOf bytes
+  pub ends : (positionOf bytes ≡ h .end) ⊎ ((1 ≤ count) × (1 ≤ length (filter (selects (d .filter)) (next .rest))))
+
+some-given : (l : List Record) → empty l ≡ false → 1 ≤ length l
+some-given [] k = clash cc
+some-given (x ∷ l) k = omega arith
+
+module _ (j : Journal) (h : History) (m : Sim j h) (d : Reader) (t : Stand h d) (a : Read) (room : ℕ) (x : Status) (bytes : List ℕ) where
+  abbrev w : Version
+  w = versionOf (a .input)
+
+  abbrev c : Page
+  c = pageOf w (d .filter) room (d .position) (t .rest)
+
+  abbrev q : ℕ
+  q = positionOf bytes
+
+  abbrev sel : List Record → List Record
+  sel rs = filter (selects (d .filter)) rs
+
+  abbrev β : ℕ → List Record → List Record
+  β b rs = between (d .start) b rs
+
+  module _ (k : pageReply w c ≡ give x bytes) where
+    r : Full w c x bytes
+    r = reply-inv w c x bytes k
+
+    e : Edge (h .base) (d .position) (posted h) (t .rest) (h .end)
+    e = stand-edge j h d m t
+
+    sp : Split (d .filter) (d .position) (t .rest) (h .end) c
+    sp = split w (d .filter) room (d .position) (t .rest) (h .end) (e .beyond)
+
+    at : c .position ≡ q
+    at =
+        sym
+        (ap positionOf (r .laid)
+        ∙ position-back (c .position) (pageBytes w c) (omega (arith, chain-le (c .position) (sp .remain) (h .end) (sp .beyond), m .low)))
+
+    sheet : drop 8 bytes ≡ joined (map (inVersion w) (sel (sp .taken)))
+    sheet =
+        ap (drop 8) (r .laid)
+        ∙ drop-at (le 8 (c .position)) (pageBytes w c) 8 (length-le 8 (c .position))
+        ∙ ap (λ (rs : List Record). joined (map (inVersion w) rs)) (sp .given)
+
+    upto : Chain (d .position) (sp .taken) q
+    upto = subst (λ (n : ℕ). Chain (d .position) (sp .taken) n) at (sp .upto)
+
+    beyond : Chain q (sp .remain) (h .end)
+    beyond = subst (λ (n : ℕ). Chain n (sp .remain) (h .end)) at (sp .beyond)
+
+    p-q : d .position ≤ q
+    p-q = chain-le (d .position) (sp .taken) q upto
+
+    old : β (d .position) (posted h) ≡ β (d .position) (e .before)
+    old =
+        ap (β (d .position)) (e .parts)
+        ∙ between-append (d .start) (d .position) (e .before) (t .rest)
+        ∙ ap (λ (y : List Record). β (d .position) (e .before) ++ y) (between-high (d .start) (d .position) (d .position) (t .rest) (h .end) (e .beyond) (omega arith))
+        ∙ append-nil (β (d .position) (e .before))
+
+    now : β q (posted h) ≡ β (d .position) (e .before) ++ sp .taken
+    now =
+        ap (β q) (e .parts)
+        ∙ between-append (d .start) q (e .before) (t .rest)
+        ∙ ap₂ (λ (y z : List Record). y ++ z) (between-top (d .start) q (h .base) (e .before) (d .position) (e .upto) (d .position) p-q (omega arith))
+        (ap (β q) (sp .parts)
+        ∙ between-append (d .start) q (sp .taken) (sp .remain)
+        ∙ ap₂ (λ (y z : List Record). y ++ z) (between-all (d .start) q (d .position) (sp .taken) q upto (t .rises) (omega arith))
+        (between-high (d .start) q q (sp .remain) (h .end) beyond (omega arith))
+        ∙ append-nil (sp .taken))
+
+    grown : sel (β (d .position) (posted h)) ++ sel (sp .taken) ≡ sel (β q (posted h))
+    grown =
+        ap (λ (y : List Record). sel y ++ sel (sp .taken)) old
+        ∙ sym (filter-append (selects (d .filter)) (β (d .position) (e .before)) (sp .taken))
+        ∙ ap sel (sym now)
+
+    step-handed : Hold (moved a bytes d .handed) (sel (β q (posted h)))
+    step-handed =
+        subst (Hold (moved a bytes d .handed)) grown
+        (hold-more (d .handed) (sel (β (d .position) (posted h))) (sel (sp .taken)) (record { version = w; bytes = drop 8 bytes }) (t .handed) sheet)
+
+    step-edge : behind (h .base) q (posted h) ≡ some (sp .remain)
+    step-edge =
+        ap (behind (h .base) q) (e .parts ∙ ap (λ (y : List Record). e .before ++ y) (sp .parts) ∙ sym (append-assoc (e .before) (sp .taken) (sp .remain)))
+        ∙ behind-edge (h .base) q (e .before ++ sp .taken) (sp .remain) (chain-append (h .base) (e .before) (d .position) (sp .taken) q (e .upto) upto)
+
+    sums : length (sel (t .rest)) ≡ length (c .given) + length (sel (sp .remain))
+    sums =
+        ap (λ (y : List Record). length (sel y)) (sp .parts)
+        ∙ ap length (filter-append (selects (d .filter)) (sp .taken) (sp .remain))
+        ∙ length-append (sel (sp .taken)) (sel (sp .remain))
+        ∙ ap (λ (y : List Record). length y + length (sel (sp .remain))) (sym (sp .given))
+
+    ending : (b : Bool) → c .cut ≡ b → (q ≡ h .end) ⊎ ((1 ≤ length (c .given)) × (1 ≤ length (sel (sp .remain))))
+    ending false u = inl (sym at ∙ sp .whole u)
+    ending true u = inr (some-given (c .given) (ap (λ (b : Bool). b && empty (c .given)) (sym u) ∙ r .full), sp .waiting u)
+
+    advance : Advance h d t a bytes
+    advance =
+        record {
+          next = record { handed = step-handed; rises = omega (arith, p-q, t .rises); positive = t .positive; rest = sp .remain; edge = step-edge };
+          count = length (c .given);
+          sum = sums;
+          rises = p-q;
+          ends = ending (c .cut) refl;
+        }
+
+-- a reply to one of the reader's own reads: only SUCCESS gives anything
+pub own-reply : (j : Journal) (h : History) → Sim j h → (d : Reader) (t : Stand h d) (a : Read) → Carries d a
+    → (x : Status) (bytes : List ℕ) → replyTo j a ≡ give x bytes
+    → (x ≡ Success) × Advance h d t a bytes
+own-reply j h m d t a c x bytes k = by (ltb (d .position) (h .first)) refl
+  where
+    lv : (h .live ≡ true) × (argumentCheck (h .id) (a .input) (a .room) ≡ none)
+    lv = replied-live j h a x bytes m k
+
+    by : (b : Bool) → ltb (d .position) (h .first) ≡ b → (x ≡ Success) × Advance h d t a bytes
+    by true e = let z : refuse JournalEntryDeleted ≡ give x bytes = sym (told-deleted j h m d t a c (lv .0) (lv .1) (ltb-true _ _ e)) ∙ k in clash cc
+    by false e =
+        let z : pageReply (versionOf (a .input)) (pageOf (versionOf (a .input)) (d .filter) (a .room - 8) (d .position) (t .rest)) ≡ give x bytes
+        = sym (told-reply j h m d t a c (lv .0) (lv .1) (ltb-false _ _ e)) ∙ k in
+        (reply-inv _ _ x bytes z .success, advance j h m d t a (a .room - 8) x bytes z)
+
+-- only SUCCESS has the number 0
+success-is : (x : Status) → eqb (number x) 0 ≡ true → x ≡ Success
+success-is Success h = refl
+success-is BufferOverflow h = clash cc
+success-is InvalidParameter h = clash cc
+success-is InvalidDeviceRequest h = clash cc
+success-is BufferTooSmall h = clash cc
+success-is DiskFull h = clash cc
+success-is FileCorruptError h = clash cc
+success-is NotAReparsePoint h = clash cc
+success-is VolumeNotUpgraded h = clash cc
+success-is JournalDeleteInProgress h = clash cc
+success-is JournalNotActive h = clash cc
+success-is JournalEntryDeleted h = clash cc
+
+pub refusal : (a : Read) (d : Reader) (r : Reply) → (answer r .status ≡ Success → ⊥) → told a r d ≡ d
+refusal a d (refuse x) n = refl
+refusal a d (give x bytes) n = go (eqb (number x) 0) refl
+  where
+    go : (b : Bool) → eqb (number x) 0 ≡ b → cond b (moved a bytes d) d ≡ d
+    go true e = absurd (n (success-is x e))
+    go false e = refl
+
+-- one call of the list
+pub stand-step : (j : Journal) (h : History) (d : Reader) → Sim j h → Stand h d → (u : Turn) → Typed (callOf u) → Refuses j (callOf u) → Own d u
+    → Stand (note h (callOf u)) (hears j d u)
+stand-step j h d m t (mine a) y n o = by (replyTo j a) refl
+  where
+    by : (r : Reply) → replyTo j a ≡ r → Stand h (told a r d)
+    by (refuse x) e = t
+    by (give x bytes) e =
+        let k = own-reply j h m d t a o x bytes e in
+        subst (λ (s : Status). Stand h (told a (give s bytes) d)) (sym (k .0)) (k .1 .next)
+stand-step j h d m t (other k) y n o = stand-grow j h (note h k) d m (sim-step j h m k y n .1) t
+
+pub stand-run : (us : List Turn) (j : Journal) (h : History) (d : Reader) → Sim j h → Stand h d
+    → AllTyped (map callOf us) → NoCreation j (map callOf us) → Chosen j d us
+    → Stand (notes h (map callOf us)) (follow j d us)
+stand-run [] j h d m t y n o = t
+stand-run (u ∷ us) j h d m t y n o =
+    stand-run us (next j (callOf u)) (note h (callOf u)) (hears j d u) (sim-step j h m (callOf u) (y .0) (n .0) .0)
+    (stand-step j h d m t u (y .0) (n .0) (o .0)) (y .1) (n .1) (o .1)

@@ -1,0 +1,273 @@
+-- What every reader is promised: progress, and the whole promise over every list of calls.
+-- Assumes nothing.
+use mathlib.Core.Path.{_≡_, refl, sym, ap, ap₂, _∙_, subst, subst₂}
+use mathlib.Core.Logic.{_⊎_, inl, inr}
+use mathlib.Core.Bool.{Bool, true, false, cond, _&&_}
+use mathlib.Core.Option.{none, some}
+use mathlib.Core.List.{List, [], _∷_, _++_, map, append-assoc, append-nil, nil≢cons, append-cancel-left}
+use Prim.Native.Nat.{ℕ, _+_, _-_, _≤_}
+use native.Mathlib.Omega.{arith}
+use lib.Dec.{leb, ltb}
+use lib.ListN.{length}
+use borrow.Author.Tests.{ltb-true, ltb-false, leb-true, lt-leb}
+use Rattle.le.specs.Numbers.{le}
+use Rattle.le.proofs.Runs.{and-left, and-right}
+use Rattle.status.specs.declared.Status.{Status}
+use Rattle.status.specs.declared.Status.the-variants.{Success, BufferTooSmall}
+use Rattle.status.specs.Reply.{Reply, refuse, give}
+use Rattle.usn_record.specs.declared.Version.{Version}
+use Rattle.usn_record.specs.Layout.{Record}
+use Rattle.reply_walker.specs.Reply.{positionOf}
+use Rattle.journal.specs.Edge.{behind}
+use Rattle.journal_read.specs.declared.Filter.{Filter}
+use Rattle.journal_read.specs.Input.{versionOf, argumentCheck}
+use Rattle.journal_read.specs.Select.{selects}
+use Rattle.journal_read.specs.Page.{Page, pageOf, empty, pageBytes, pageReply}
+use Rattle.history.specs.Calls.{Read, Call, create, post, read, delete, finish, Journal, replyTo, outcome, next, runs, AllTyped}
+use Rattle.history.specs.Log.{History, posted, opened, note, notes, opens}
+use Rattle.history.specs.Reading.{Reader, fresh, moved, told, Turn, mine, other, callOf, follow, Carries, Chosen}
+use Rattle.history.specs.Demand.{filter, between, above, Rising, Startable, DroppedAbove, NoCreation, isNone, wellFormed, one, counts, ample, Kept, Demand3}
+use Rattle.history.proofs.Links.{Chain, chain-le, link-rises}
+use Rattle.history.proofs.Sim.{Sim, Grow}
+use Rattle.history.proofs.Chains.{filter-chain, filter-none, above-low, above-all, above-append, behind-here, behind-mem, some-above, first-fits}
+use Rattle.history.proofs.Simulate.{sim-step, create-sim, sim-run, grow-run}
+use Rattle.history.proofs.Readers.{clash, whole, Stand, stand-edge, stand-grow, none-is, told-reply, deleted-iff, Advance, own-reply, refusal, stand-step, stand-run}
+
+-- ---- progress
+
+-- how many selected records are above the reader's position
+abbrev need : History → Reader → ℕ
+need h d = length (filter (selects (d .filter)) (above (d .position) (posted h)))
+
+need-rest : (j : Journal) (h : History) (d : Reader) → Sim j h → (t : Stand h d) → need h d ≡ length (filter (selects (d .filter)) (t .rest))
+need-rest j h d m t = ap (λ (l : List Record). length (filter (selects (d .filter)) l)) same
+  where
+    same : above (d .position) (posted h) ≡ t .rest
+    same =
+        let e = stand-edge j h d m t in
+        ap (above (d .position)) (e .parts)
+        ∙ above-append (d .position) (e .before) (t .rest)
+        ∙ ap₂ (λ (x y : List Record). x ++ y) (above-low (d .position) (h .base) (e .before) (d .position) (e .upto) (omega arith))
+        (above-all (d .position) (d .position) (t .rest) (h .end) (e .beyond) (omega arith))
+
+reply-full : (v : Version) (c : Page) → c .cut && empty (c .given) ≡ false → pageReply v c ≡ give Success (le 8 (c .position) ++ pageBytes v c)
+unfolding pageReply
+reply-full v c h = ap (λ (x : Bool). cond x (refuse BufferTooSmall) (give Success (le 8 (c .position) ++ pageBytes v c))) h
+
+-- room for the position and the longest record
+enough : (b : Bool) (n room : ℕ) → b && leb n room ≡ true → 600 ≤ n → 592 ≤ room - 8
+enough b n room h k = omega (arith, leb-true n room (and-right b (leb n room) h))
+
+-- a well-formed read with room enough is answered, where nothing above its position was dropped
+answered : (j : Journal) (h : History) (d : Reader) → Sim j h → Stand h d → h .first ≤ d .position
+    → (a : Read) → Carries d a → counts h d (mine a) ≡ true
+    → (bytes : List ℕ) × (replyTo j a ≡ give Success bytes)
+unfolding wellFormed
+answered j h d m t low a k w = (_, told-reply j h m d t a k live ok low ∙ reply-full (versionOf (a .input)) _ fit)
+  where
+    formed : h .live && isNone (argumentCheck (h .id) (a .input) (a .room)) ≡ true
+    formed = and-left (h .live && isNone (argumentCheck (h .id) (a .input) (a .room))) _ w
+
+    room : 592 ≤ a .room - 8
+    room = enough (h .live && isNone (argumentCheck (h .id) (a .input) (a .room))) _ (a .room) w (omega arith)
+
+    live : h .live ≡ true
+    live = and-left (h .live) (isNone (argumentCheck (h .id) (a .input) (a .room))) formed
+
+    ok : argumentCheck (h .id) (a .input) (a .room) ≡ none
+    ok = none-is (argumentCheck (h .id) (a .input) (a .room)) (and-right (h .live) (isNone (argumentCheck (h .id) (a .input) (a .room))) formed)
+
+    page : Page
+    page = pageOf (versionOf (a .input)) (d .filter) (a .room - 8) (d .position) (t .rest)
+
+    fit : page .cut && empty (page .given) ≡ false
+    fit = first-fits (versionOf (a .input)) (d .filter) (a .room - 8) (d .position) (t .rest) (h .end) (stand-edge j h d m t .beyond) room
+
+-- the reader is at the end, or has reads enough before it
+abbrev Soon : History → Reader → ℕ → Type 0
+Soon h d k = (d .position ≡ h .end) ⊎ ((1 ≤ k) × (need h d ≤ k))
+
+one-le : (x : Bool) → one x ≤ 1
+one-le true = omega arith
+one-le false = omega arith
+
+append-same : (x y : List Record) → x ++ y ≡ x → y ≡ []
+append-same x y h = append-cancel-left x y [] (h ∙ sym (append-nil x))
+
+append-nil-left : (x y : List Record) → x ++ y ≡ [] → x ≡ []
+append-nil-left [] y q = refl
+append-nil-left (r ∷ x) y q = absurd (nil≢cons (sym q))
+
+refuse-give : (x y : Status) (bytes : List ℕ) → refuse x ≡ give y bytes → ⊥
+refuse-give x y bytes e = clash cc
+
+module _ (j : Journal) (h : History) (d : Reader) (m : Sim j h) (t : Stand h d) (low : h .first ≤ d .position) where
+  soon-reply : (a : Read) (bytes : List ℕ) (x : Bool) (k : ℕ) → Advance h d t a bytes → Soon h d (one x + k) → Soon h (moved a bytes d) k
+  soon-reply a bytes x k v s = go (v .ends) s
+    where
+      go : (positionOf bytes ≡ h .end) ⊎ ((1 ≤ v .count) × (1 ≤ length (filter (selects (d .filter)) (v .next .rest)))) → Soon h d (one x + k) → Soon h (moved a bytes d) k
+      go (inl e) s = inl e
+      go (inr e) (inl s) =
+          inl (omega (arith, v .rises, chain-le (positionOf bytes) (v .next .rest) (h .end) (stand-edge j h (moved a bytes d) m (v .next) .beyond)))
+      go (inr e) (inr s) =
+          let n₀ : need h d ≡ length (filter (selects (d .filter)) (t .rest)) = need-rest j h d m t in
+          let n₁ : need h (moved a bytes d) ≡ length (filter (selects (d .filter)) (v .next .rest)) = need-rest j h (moved a bytes d) m (v .next) in
+          inr (omega (arith, v .sum, one-le x, e .0, e .1, s .0, s .1), omega (arith, v .sum, one-le x, e .0, e .1, s .0, s .1))
+
+  -- one of the reader's own reads
+  soon-mine : (a : Read) → Carries d a → (k : ℕ) → Soon h d (one (counts h d (mine a)) + k) → Soon h (told a (replyTo j a) d) k
+  soon-mine a c k s = go (replyTo j a) refl (counts h d (mine a)) refl s
+    where
+      same : (x : Bool) → (x ≡ true → ⊥) → Soon h d (one x + k) → Soon h d k
+      same true n s = absurd (n refl)
+      same false n (inl s) = inl s
+      same false n (inr s) = inr (omega arith, omega arith)
+
+      go : (r : Reply) → replyTo j a ≡ r → (x : Bool) → counts h d (mine a) ≡ x → Soon h d (one x + k) → Soon h (told a r d) k
+      go (refuse i) e x q s =
+          same x (λ z. let w = answered j h d m t low a c (q ∙ z) in refuse-give i Success (w .0) (sym e ∙ w .1)) s
+      go (give i bytes) e x q s =
+          let o = own-reply j h m d t a c i bytes e in
+          subst (λ (y : Status). Soon h (told a (give y bytes) d) k) (sym (o .0)) (soon-reply a bytes x k (o .1) s)
+
+  low-mine : (a : Read) → Carries d a → h .first ≤ told a (replyTo j a) d .position
+  low-mine a c = go (replyTo j a) refl
+    where
+      go : (r : Reply) → replyTo j a ≡ r → h .first ≤ told a r d .position
+      go (refuse i) e = low
+      go (give i bytes) e =
+          let o = own-reply j h m d t a c i bytes e in
+          let z : h .first ≤ positionOf bytes = omega (arith, o .1 .rises, low) in
+          subst (λ (y : Status). h .first ≤ told a (give y bytes) d .position) (sym (o .0)) z
+
+  -- a call of anybody that posts nothing
+  module _ (k : History) (g : Grow h k) (n : g .more ≡ []) where
+    same-posted : posted k ≡ posted h
+    same-posted = g .parts ∙ ap (λ (x : List Record). posted h ++ x) n ∙ append-nil (posted h)
+
+    same-end : k .end ≡ h .end
+    same-end = sym (subst (λ (x : List Record). Chain (h .end) x (k .end)) n (g .chain))
+
+    soon-other : (i : ℕ) → Soon h d (one false + i) → Soon k d i
+    soon-other i (inl s) = inl (s ∙ sym same-end)
+    soon-other i (inr s) =
+        let w : need k d ≡ need h d = ap (λ (x : List Record). length (filter (selects (d .filter)) (above (d .position) x))) same-posted in
+        inr (omega arith, omega arith)
+
+progress : (us : List Turn) (j : Journal) (h : History) (d : Reader) → Sim j h → Stand h d → h .first ≤ d .position
+    → AllTyped (map callOf us) → NoCreation j (map callOf us) → Chosen j d us
+    → posted (notes h (map callOf us)) ≡ posted h → Soon h d (ample j h d us) → follow j d us .position ≡ h .end
+progress [] j h d m t low y n c quiet (inl s) = s
+progress [] j h d m t low y n c quiet (inr s) = absurd (omega arith)
+progress (mine a ∷ us) j h d m t low y n c quiet soon =
+    progress us j h (told a (replyTo j a) d) m (stand-step j h d m t (mine a) tt tt (c .0)) (low-mine j h d m t low a (c .0))
+    (y .1) (n .1) (c .1) quiet
+    (soon-mine j h d m t low a (c .0) (ample j h (told a (replyTo j a) d) us) soon)
+progress (other k ∷ us) j h d m t low y n c quiet soon =
+    let s = sim-step j h m k (y .0) (n .0) in
+    let rest = grow-run (map callOf us) (next j k) (note h k) (s .0) (y .1) (n .1) in
+    let calm : s .1 .more ≡ [] =
+    append-nil-left (s .1 .more) (rest .more)
+    (append-same (posted h) (s .1 .more ++ rest .more)
+    (sym (append-assoc (posted h) (s .1 .more) (rest .more))
+    ∙ ap (λ (x : List Record). x ++ rest .more) (sym (s .1 .parts))
+    ∙ sym (rest .parts)
+    ∙ quiet)) in
+    progress us (next j k) (note h k) d (s .0) (stand-grow j h (note h k) d m (s .1) t) (omega (arith, s .1 .calm calm, low)) (y .1) (n .1) (c .1)
+    (quiet ∙ sym (same-posted j h d m t low (note h k) (s .1) calm))
+    (soon-other j h d m t low (note h k) (s .1) calm (ample (next j k) (note h k) d us) soon)
+    ∙ same-end j h d m t low (note h k) (s .1) calm
+
+-- ---- the start
+
+between-same : (a p : ℕ) (l : List Record) (e : ℕ) → Chain p l e → between a a l ≡ []
+unfolding between
+between-same a p l e h = filter-chain _ (λ (r : Record). false) p l e h (λ r lo hi. go r (ltb a (r .fields .usn)) refl) ∙ filter-none l
+  where
+    go : (r : Record) (x : Bool) → ltb a (r .fields .usn) ≡ x → x && leb (r .fields .usn) a ≡ false
+    go r true q = lt-leb (r .fields .usn) a (ltb-true a (r .fields .usn) q)
+    go r false q = refl
+
+stand-fresh : (j : Journal) (h : History) → Sim j h → (start : ℕ) (f : Filter) → (start ≡ 0 → ⊥) → Startable h start → Stand h (fresh start f)
+stand-fresh j h m start f pos at =
+    let g = place at in
+    record {
+      handed = ap (filter (selects f)) (between-same start (h .base) (posted h) (h .end) (whole j h m));
+      rises = omega arith;
+      positive = omega arith;
+      rest = g .0;
+      edge = g .1;
+    }
+  where
+    place : Startable h start → (t : List Record) × (behind (h .base) start (posted h) ≡ some t)
+    place (inl e) = (posted h, behind-here (h .base) start (posted h) (sym e))
+    place (inr r) =
+        let g = behind-mem (h .base) (posted h) (h .end) (r .0) (whole j h m) (r .1) in
+        (g .0, ap (λ (x : ℕ). behind (h .base) x (posted h)) (sym (r .2)) ∙ g .1)
+
+not-dropped : (j : Journal) (h : History) (d : Reader) → Sim j h → Stand h d → (DroppedAbove h (d .position) → ⊥) → h .first ≤ d .position
+not-dropped j h d m t n = go (ltb (d .position) (h .first)) refl
+  where
+    go : (x : Bool) → ltb (d .position) (h .first) ≡ x → h .first ≤ d .position
+    go false q = ltb-false (d .position) (h .first) q
+    go true q =
+        let e = stand-edge j h d m t in
+        absurd
+        (n (some-above (h .base) (h .dropped) (h .first) (d .position) (m .gone) (chain-le (h .base) (e .before) (d .position) (e .upto)) (ltb-true (d .position) (h .first) q)))
+
+rising : (p : ℕ) (l : List Record) (e : ℕ) → Chain p l e → Rising p l
+rising p [] e h = tt
+rising p (r ∷ l) e h = (link-rises p r (h .0), rising (r .fields .usn) l e (h .1))
+
+-- the promise holds wherever journal and history go together and the reader stands rightly
+pub promise : (j : Journal) (h : History) (d : Reader) → Sim j h → Stand h d → Kept j h d
+promise j h d m t =
+    record {
+      handed = t .handed;
+      rising = rising (h .base) (posted h) (h .end) (whole j h m);
+      refusal = λ a n. refusal a d (replyTo j a) n;
+      deleted = λ a c w. deleted-iff j h d m t a c w;
+      progress = λ none ts y n c quiet enough. progress ts j h d m t (not-dropped j h d m t none) y n c quiet (inr (omega arith, omega arith));
+    }
+
+-- ---- the whole list
+
+typed-parts : (x y : List Call) → AllTyped (x ++ y) → AllTyped x × AllTyped y
+typed-parts [] y h = (tt, h)
+typed-parts (c ∷ x) y h = let k = typed-parts x y (h .1) in ((h .0, k .0), k .1)
+
+none-parts : (x y : List Call) (j : Journal) → NoCreation j (x ++ y) → NoCreation j x × NoCreation (runs j x) y
+none-parts [] y j h = (tt, h)
+none-parts (c ∷ x) y j h = let k = none-parts x y (next j c) (h .1) in ((h .0, k .0), k .1)
+
+runs-append : (x y : List Call) (j : Journal) → runs j (x ++ y) ≡ runs (runs j x) y
+runs-append [] y j = refl
+runs-append (c ∷ x) y j = runs-append x y (next j c)
+
+notes-append : (x y : List Call) (h : History) → notes h (x ++ y) ≡ notes (notes h x) y
+notes-append [] y h = refl
+notes-append (c ∷ x) y h = notes-append x y (note h c)
+
+-- what a call opens goes together with its history
+opens-sim : (j : Journal) (c : Call) (h : History) → outcome j c .status ≡ Success → opens (j .volume) (length (j .ring)) c ≡ some h
+    → Sim (next j c) h
+opens-sim j (create id) h k o =
+    let z : opened (j .volume) (length (j .ring)) id ≡ h = cc in
+    subst (λ (x : History). Sim (next j (create id)) x) z (create-sim j id k)
+opens-sim j (post c name) h k o = clash cc
+opens-sim j (read a) h k o = clash cc
+opens-sim j (delete id) h k o = clash cc
+opens-sim j finish h k o = clash cc
+
+-- the promise to every reader, over every list of calls from a creation on
+pub demand3 : Demand3
+demand3 j c h k o before ts start f w y n at pos own =
+    let j₁ : Journal = next j c in
+    let us : List Call = map callOf ts in
+    let ys = typed-parts before us y in
+    let ns = none-parts before us j₁ n in
+    let m = sim-run before j₁ h (opens-sim j c h k o) (ys .0) (ns .0) in
+    let t = stand-fresh (runs j₁ before) (notes h before) m start f pos at in
+    subst₂ (λ (x : Journal) (z : History). Kept x z (follow (runs j₁ before) (fresh start f) ts)) (sym (runs-append before us j₁)) (sym (notes-append before us h))
+    (promise (runs (runs j₁ before) us) (notes (notes h before) us) (follow (runs j₁ before) (fresh start f) ts)
+    (sim-run us (runs j₁ before) (notes h before) m (ys .1) (ns .1)) (stand-run ts (runs j₁ before) (notes h before) (fresh start f) m t (ys .1) (ns .1) own))

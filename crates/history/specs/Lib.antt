@@ -1,0 +1,4 @@
+pub mod Calls
+pub mod Log
+pub mod Reading
+pub mod Demand

@@ -1,0 +1,81 @@
+-- A reader: any choice of a list's reads that carry its position, mask and only-on-close flag.
+use mathlib.Core.Path.{_≡_}
+use mathlib.Core.Bool.{Bool, true, false, cond}
+use mathlib.Core.List.{List, [], _∷_, _++_, map}
+use Prim.Native.Nat.{ℕ}
+use lib.Dec.{eqb}
+use lib.ListN.{drop}
+use Rattle.status.specs.Number.{number}
+use Rattle.status.specs.Reply.{Reply, refuse, give}
+use Rattle.usn_record.specs.declared.Version.{Version}
+use Rattle.usn_record.specs.Layout.{Record}
+use Rattle.reply_walker.specs.Reply.{positionOf, joined}
+use Rattle.journal_read.specs.declared.Filter.{Filter}
+use Rattle.journal_read.specs.Input.{startOf, filterOf, versionOf}
+use Rattle.journal_read.specs.Page.{inVersion}
+use Rattle.history.specs.Calls.{Read, Call, create, post, read, delete, finish, Journal, replyTo, next}
+
+-- what one SUCCESS reply hands out: the version asked for, and the bytes behind the position
+pub record Sheet : Type 0 where
+  pub version : Version
+  pub bytes : List ℕ
+
+pub record Reader : Type 0 where
+  pub start : ℕ
+  pub filter : Filter
+  pub position : ℕ
+  pub handed : List Sheet
+
+abbrev pub fresh : ℕ → Filter → Reader
+fresh start f = record { start = start; filter = f; position = start; handed = [] }
+
+-- the reader once a reply has come: it stands at the reply's position and has its records
+abbrev pub moved : Read → List ℕ → Reader → Reader
+moved a bytes d =
+    record {
+      start = d .start;
+      filter = d .filter;
+      position = positionOf bytes;
+      handed = d .handed ++ (record { version = versionOf (a .input); bytes = drop 8 bytes } ∷ []);
+    }
+
+-- only a SUCCESS reply moves it or hands it anything
+abbrev pub told : Read → Reply → Reader → Reader
+told a (refuse x) d = d
+told a (give x bytes) d = cond (eqb (number x) 0) (moved a bytes d) d
+
+-- a call of the list, with the choice whether it is this reader's
+pub data Turn : Type 0 where
+  mine : Read → Turn
+  other : Call → Turn
+
+abbrev pub callOf : Turn → Call
+callOf (mine a) = read a
+callOf (other c) = c
+
+-- the reader after a turn, and after all of them
+abbrev pub hears : Journal → Reader → Turn → Reader
+hears j d (mine a) = told a (replyTo j a) d
+hears j d (other c) = d
+
+abbrev pub follow : Journal → Reader → List Turn → Reader
+follow j d [] = d
+follow j d (t ∷ ts) = follow (next j (callOf t)) (hears j d t) ts
+
+-- a read carries the reader's position and filter
+abbrev pub Carries : Reader → Read → Type 0
+Carries d a = (startOf (a .input) ≡ d .position) × (filterOf (a .input) ≡ d .filter)
+
+abbrev pub Own : Reader → Turn → Type 0
+Own d (mine a) = Carries d a
+Own d (other c) = Unit {0}
+
+-- each read of its choice does
+abbrev pub Chosen : Journal → Reader → List Turn → Type 0
+Chosen j d [] = Unit {0}
+Chosen j d (t ∷ ts) = Own d t × Chosen (next j (callOf t)) (hears j d t) ts
+
+-- the sheets hold exactly these records, in this order, each byte for byte its layout in the sheet's version
+abbrev pub Hold : List Sheet → List Record → Type 0
+Hold [] rs = rs ≡ []
+Hold (s ∷ sheets) rs = (here : List Record) × (later : List Record) × (rs ≡ here ++ later) × (s .bytes ≡ joined (map (inVersion (s .version)) here)) × Hold sheets later
