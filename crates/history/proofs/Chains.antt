@@ -13,9 +13,9 @@ use borrow.Author.Tests.{ltb-true, ltb-false, eqb-true, lt-ltb, le-ltb, le-leb, 
 use Rattle.usn_record.specs.declared.Version.{Version}
 use Rattle.usn_record.specs.Layout.{Record, lengthOf}
 use Rattle.journal.specs.Edge.{behind}
-use Rattle.journal_read.specs.declared.Filter.{Filter}
-use Rattle.journal_read.specs.Select.{selects}
-use Rattle.journal_read.specs.Page.{inVersion, fits, Page, turn, pageOf, empty}
+use Rattle.journal_page.specs.declared.Filter.{Filter}
+use Rattle.journal_page.specs.Select.{selects}
+use Rattle.journal_page.specs.Page.{inVersion, fits, Page, turn, pageOf, empty}
 use Rattle.history.specs.Demand.{keep, filter, between, above}
 use Rattle.history.proofs.Links.{Chain, chain-le, link-rises, link-short}
 

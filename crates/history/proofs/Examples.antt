@@ -18,10 +18,10 @@ use Rattle.reply_walker.specs.Reply.{joined}
 use Rattle.journal.specs.Edge.{behind}
 use Rattle.journal_post.specs.declared.Change.{Change}
 use Rattle.journal_post.specs.Post.{postedName, recordOf}
-use Rattle.journal_read.specs.declared.Filter.{Filter}
+use Rattle.journal_page.specs.declared.Filter.{Filter}
 use Rattle.journal_read.specs.Input.{argumentCheck}
-use Rattle.journal_read.specs.Select.{wanted}
-use Rattle.journal_read.specs.Page.{inVersion, fits, pageOf, pageReply}
+use Rattle.journal_page.specs.Select.{wanted}
+use Rattle.journal_page.specs.Page.{inVersion, fits, pageOf, pageReply}
 use Rattle.journal_read.specs.Read.{isDeleted, origin, deletedCheck, readAnswer}
 use Rattle.history.specs.Calls.{Read, Call, create, post, read, Journal, replyTo, outcome, next, runs, Widths, AllTyped}
 use Rattle.history.specs.Log.{History, posted, opened, isPosted, shed, added, notePost, notes}

@@ -26,10 +26,10 @@ use Rattle.usn_record.specs.Layout.{Record}
 use Rattle.reply_walker.specs.Reply.{positionOf, joined, records}
 use Rattle.journal.specs.Kept.{keptBytes, inChain, goodMarks, sound, kept}
 use Rattle.journal.specs.Edge.{behind}
-use Rattle.journal_read.specs.declared.Filter.{Filter}
+use Rattle.journal_page.specs.declared.Filter.{Filter}
 use Rattle.journal_read.specs.Input.{filterOf, versionOf, argumentCheck}
-use Rattle.journal_read.specs.Select.{selects}
-use Rattle.journal_read.specs.Page.{inVersion, Page, pageOf, empty, pageBytes, pageReply}
+use Rattle.journal_page.specs.Select.{selects}
+use Rattle.journal_page.specs.Page.{inVersion, Page, pageOf, empty, pageBytes, pageReply}
 use Rattle.journal_read.specs.Read.{isDeleted, origin, deletedCheck, answerFrom, readAnswer, readCheck, readReply}
 use Rattle.history.specs.Calls.{Read, Journal, replyTo, next, Typed, AllTyped}
 use Rattle.history.specs.Log.{History, posted, note, notes}

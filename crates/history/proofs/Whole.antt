@@ -19,10 +19,10 @@ use Rattle.usn_record.specs.declared.Version.{Version}
 use Rattle.usn_record.specs.Layout.{Record}
 use Rattle.reply_walker.specs.Reply.{positionOf}
 use Rattle.journal.specs.Edge.{behind}
-use Rattle.journal_read.specs.declared.Filter.{Filter}
+use Rattle.journal_page.specs.declared.Filter.{Filter}
 use Rattle.journal_read.specs.Input.{versionOf, argumentCheck}
-use Rattle.journal_read.specs.Select.{selects}
-use Rattle.journal_read.specs.Page.{Page, pageOf, empty, pageBytes, pageReply}
+use Rattle.journal_page.specs.Select.{selects}
+use Rattle.journal_page.specs.Page.{Page, pageOf, empty, pageBytes, pageReply}
 use Rattle.history.specs.Calls.{Read, Call, create, post, read, delete, finish, Journal, replyTo, outcome, next, runs, AllTyped}
 use Rattle.history.specs.Log.{History, posted, opened, note, notes, opens}
 use Rattle.history.specs.Reading.{Reader, fresh, moved, told, Turn, mine, other, callOf, follow, Carries, Chosen}
