@@ -2,7 +2,7 @@
 -- Assumes nothing.
 use mathlib.Core.Path.{_≡_, refl, sym, ap, ap₂, _∙_, subst₂}
 use mathlib.Core.Logic.{_⊎_, inl, inr}
-use mathlib.Core.Bool.{Bool, true, false, cond, _&&_}
+use mathlib.Core.Bool.{and-false, Bool, true, false, cond, _&&_}
 use mathlib.Core.Option.{none, some}
 use mathlib.Core.List.{List, [], _∷_, _++_, List·Memᴰ, List·Memᴰ·head, List·Memᴰ·tail, List·Memᴰ·not-nil, List·Memᴰ·cases-cons, append-assoc}
 use Prim.Native.Nat.{ℕ, _-_, _≤_, _<_}
@@ -43,10 +43,6 @@ filter-all (r ∷ rs) = ap (λ (t : List Record). r ∷ t) (filter-all rs)
 pub filter-none : (l : List Record) → filter (λ (r : Record). false) l ≡ []
 filter-none [] = refl
 filter-none (r ∷ rs) = filter-none rs
-
-pub and-false : (b : Bool) → b && false ≡ false
-and-false true = refl
-and-false false = refl
 
 pub between-append : (a b : ℕ) (l m : List Record) → between a b (l ++ m) ≡ between a b l ++ between a b m
 unfolding between

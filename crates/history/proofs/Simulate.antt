@@ -1,7 +1,7 @@
 -- A journal and its history go together through every call.
 -- Assumes nothing.
 use mathlib.Core.Path.{_≡_, refl, sym, ap, ap₂, _∙_, subst, subst₂}
-use mathlib.Core.Bool.{Bool, true, false, not, cond, _&&_, _||_}
+use mathlib.Core.Bool.{Bool, true, false, not, cond, and-false, _&&_, _||_}
 use mathlib.Core.Option.{Option, none, some}
 use mathlib.Core.List.{List, [], _∷_, _++_, append-assoc, append-nil, nil≢cons}
 use Prim.Native.Nat.{ℕ, zero, suc, _+_, _-_, _%_, _^_, _≤_, _<_}
@@ -26,6 +26,7 @@ use Rattle.reply_walker.specs.Reply.{whole, recordList, records, joined}
 use Rattle.reply_walker.proofs.Replies.{joined-read}
 use Rattle.journal.specs.Kept.{keptBytes, keeps, chained, inChain, goodMarks, sound, kept}
 use Rattle.journal.specs.Edge.{oldest}
+use Rattle.journal.proofs.Edges.{facts-marks, facts-sound}
 use Rattle.journal_post.specs.declared.Change.{Change}
 use Rattle.journal_post.specs.declared.Verdict.{Verdict}
 use Rattle.journal_post.specs.declared.Verdict.the-variants.{Skip, Reject, Accept}
@@ -39,10 +40,6 @@ use Rattle.history.proofs.Posting.{chain-sound, chain-chained, Cut, cut
 
 and-true : (a b : Bool) → a ≡ true → b ≡ true → a && b ≡ true
 and-true a b p q = rw (p, q)
-
-and-false : (a : Bool) → a && false ≡ false
-and-false true = refl
-and-false false = refl
 
 true-false : {A : Type 0} → true ≡ false → A
 true-false q = absurd (let z : _≡_ {A = ℕ} 0 1 = cc in omega arith)
@@ -58,20 +55,17 @@ module _ (j : Journal) (h : History) (m : Sim j h) (l : Live j h) where
   kept-live = ap recordList records-live
 
   marks-live : goodMarks (j .volume) (length (j .ring)) ≡ true
-  unfolding goodMarks
   marks-live =
+      let c = capacity-facts (h .capacity) (m .capacity) in
       let le : h .first ≤ h .end = chain-le (h .first) (h .left) (h .end) (m .here) in
-      and-true _ _ (subst (λ (x : ℕ). goodCapacity x ≡ true) (sym (l .capacity)) (m .capacity))
-      (and-true _ _ (eq-eqb _ _ (l .buffer))
-      (and-true _ _ (facts-position (j .volume .first) (omega (arith, l .first, m .firstEight)) (omega (arith, l .first, m .low)))
-      (and-true _ _ (facts-position (j .volume .last) (omega (arith, l .last, m .endEight)) (omega (arith, l .last, m .low)))
-      (and-true _ _ (le-leb (j .volume .first) (j .volume .last) (omega (arith, l .first, l .last)))
-      (le-leb (j .volume .last - j .volume .first) (j .volume .capacity) (omega (arith, l .first, l .last, l .capacity, m .span)))))))
+      let n : length (j .ring) ≡ h .capacity = l .buffer ∙ l .capacity in
+      facts-marks (j .volume) (length (j .ring)) (l .buffer) (omega (arith, n, c .0)) (omega (arith, n, c .1)) (omega (arith, n, c .2))
+      (omega (arith, l .first, m .firstEight)) (omega (arith, l .last, m .endEight)) (omega (arith, l .last, m .low)) (omega (arith, l .first, l .last))
+      (omega (arith, l .first, l .last, n, m .span))
 
   pub sound-live : sound (j .volume) (j .ring) ≡ true
-  unfolding sound
   sound-live =
-      and-true _ _ marks-live
+      facts-sound (j .volume) (j .ring) marks-live
       (ap (inChain (j .volume .first)) records-live
       ∙ ap (λ (x : ℕ). chained x (h .left)) (l .first)
       ∙ chain-chained (h .first) (h .left) (h .end) (m .here))
