@@ -19,6 +19,7 @@ use Rattle.status.specs.declared.Status.the-variants.{Success, BufferOverflow, 
 use Rattle.status.specs.Number.{number}
 use Rattle.status.specs.Check.{unless, else}
 use Rattle.status.specs.Reply.{Reply, refuse, give, guard, answer}
+use Rattle.status.proofs.Checking.{else-none, unless-true}
 use Rattle.volume.specs.declared.Volume.{Volume}
 use Rattle.volume.specs.State.{supported, isActive, isDeleting, activeCheck, goodCapacity}
 use Rattle.usn_record.specs.declared.Version.{Version}
@@ -99,14 +100,6 @@ guard-inv : (o : Option Status) (k : Reply) (x : Status) (bytes : List ℕ) → 
 guard-inv none k x bytes h = (refl, h)
 guard-inv (some y) k x bytes h = clash cc
 
-else-none : (o p : Option Status) → else o p ≡ none → (o ≡ none) × (p ≡ none)
-else-none none p h = (refl, h)
-else-none (some x) p h = clash cc
-
-unless-none : (b : Bool) (x : Status) → unless b x ≡ none → b ≡ true
-unless-none true x h = refl
-unless-none false x h = clash cc
-
 pub none-is : (o : Option Status) → isNone o ≡ true → o ≡ none
 none-is none h = refl
 none-is (some x) h = clash cc
@@ -138,9 +131,9 @@ module _ (v : Volume) (ring input : List ℕ) (room : ℕ) (x : Status) (bytes :
       let c₁ = else-none (unless (supported (v .journal)) InvalidDeviceRequest) (else (activeCheck v) (argumentCheck (v .id) input room)) (k₁ .0) in
       let c₂ = else-none (activeCheck v) (argumentCheck (v .id) input room) (c₁ .1) in
       let c₃ = else-none (unless (not (isDeleting v)) JournalDeleteInProgress) (unless (isActive v) JournalNotActive) (c₂ .0) in (
-        ap₂ (λ (p q : Bool). p && (q && eqb (length ring) (v .capacity))) (unless-none (supported (v .journal)) InvalidDeviceRequest (c₁ .0))
-            (unless-none (isActive v) JournalNotActive (c₃ .1))
-            ∙ sound-buffer v ring (unless-none (sound v ring) FileCorruptError (k₂ .0)),
+        ap₂ (λ (p q : Bool). p && (q && eqb (length ring) (v .capacity))) (unless-true (supported (v .journal)) InvalidDeviceRequest (c₁ .0))
+            (unless-true (isActive v) JournalNotActive (c₃ .1))
+            ∙ sound-buffer v ring (unless-true (sound v ring) FileCorruptError (k₂ .0)),
         c₂ .1,
       )
 

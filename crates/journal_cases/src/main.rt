@@ -3,71 +3,18 @@
 // nothing with the crates.
 ghost use lib.ListN.{length};
 ghost use Prim.Native.Nat.{_≤_};
+use case_rows::ROW;
+use case_rows::digest;
+use case_rows::number;
+use case_rows::print;
+use case_rows::print_number;
+use case_rows::print_status;
+use case_rows::size;
+use case_rows::word;
 use journal_post::Change;
-use libc::STDOUT_FILENO;
-use list_input::Input;
 use status::Answer;
-use status::status_number;
 use volume::Outcome;
 use volume::Volume;
-
-// The bytes of a row.
-const ROW: usize = 72;
-
-// Number i of a row; 0 where there is none.
-fn number(row: &[u8], i: usize) -> u64
-    requires { ⌜ i ≤ 8 ⌝ }
-{
-    let at = 8 * i;
-    if row.len() < at + 8 {
-        return 0;
-    }
-    le::get(row, at, 8)
-}
-
-// The low 32 bits of number i.
-fn word(row: &[u8], i: usize) -> u32
-    requires { ⌜ i ≤ 8 ⌝ }
-{
-    (number(row, i) % 0x1_0000_0000) as u32
-}
-
-// Number i as a length of at most n.
-fn size(row: &[u8], i: usize, n: usize) -> usize
-    requires { ⌜ i ≤ 8 ⌝ }
-    ensures { λ r. ⌜ r ≤ n ⌝ }
-{
-    let x = number(row, i);
-    if n as u64 <= x {
-        return n;
-    }
-    x as usize
-}
-
-fn print(text: &[u8]) {
-    io::write_all(STDOUT_FILENO, text);
-}
-
-fn print_number(value: u64) {
-    print(b" ");
-    io::print_decimal(STDOUT_FILENO, value);
-}
-
-fn print_status(s: status::Status) {
-    print(b" ");
-    io::print_hex(STDOUT_FILENO, status_number(s) as u64, 8);
-}
-
-// A number that tells one run of bytes from another.
-fn digest(s: &[u8]) -> u64 {
-    let mut d: u64 = 1;
-    let mut i = 0;
-    while i < s.len() {
-        d = d % 4294967291 * 31 + s[i] as u64;
-        i += 1;
-    }
-    d % 4294967291
-}
 
 // Prints a call's status and the volume record that it leaves, and hands the record on.
 fn told(label: &[u8], outcome: Outcome) -> Volume {
@@ -239,20 +186,10 @@ fn run(rows: &[u8], ring: &mut [u8], last: u64) {
     }
 }
 
-// The first row has the ring's length and LastUsn.
-fn run_file(path: &[u8]) {
-    let fd = os::open_read(path);
-    if fd < 0 {
-        os::fail(path);
-        return;
-    }
+// The first row of a file has the ring's length and LastUsn.
+fn run_file(i: usize) {
     let mut rows = io::large_buffer();
-    let input = list_input::read_all(fd, &mut rows);
-    libc::close(fd);
-    let Input::Bytes(n) = input else {
-        os::fail(path);
-        return;
-    };
+    let n = case_rows::read_argument(i, &mut rows);
     if n < ROW {
         return;
     }
@@ -262,20 +199,11 @@ fn run_file(path: &[u8]) {
     run(&rows[ROW..n], &mut ring[..capacity], last);
 }
 
-fn run_argument(i: usize) {
-    let mut path = io::buffer();
-    let n = os::arg(i, &mut path);
-    print(b"# ");
-    print(&path[..n]);
-    print(b"\n");
-    run_file(&path[..n]);
-}
-
 fn main() {
     let count = os::arg_count();
     let mut i = 1;
     while i < count {
-        run_argument(i);
+        run_file(i);
         i += 1;
     }
 }

@@ -25,6 +25,12 @@ pub struct Answer {
     pub count: usize,
 }
 
+// What a call's checks come to.
+pub enum Judged {
+    Passed,
+    Refused(Status),
+}
+
 // The number of a status, as [MS-ERREF] has it.
 pub fn status_number(s: Status) -> u32
     ensures { λ r. ⌜ r ≡ number s ⌝ }

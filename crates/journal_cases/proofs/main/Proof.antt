@@ -17,8 +17,8 @@ arg-count-requires c κs = search needs
 loop-holds : tie.Need-loop-holds Inv-loop μ-loop
 loop-holds c = search needs
 
-run-argument-requires : tie.Need-run-argument-requires Inv-loop μ-loop
-run-argument-requires c κs = search needs
+run-file-requires : tie.Need-run-file-requires Inv-loop μ-loop
+run-file-requires c κs = search needs
 
 add-i : tie.Need-add-i Inv-loop μ-loop
 add-i c = search needs
@@ -40,7 +40,7 @@ main-spec =
     μ-loop
     arg-count-requires
     loop-holds
-    run-argument-requires
+    run-file-requires
     add-i
     loop-less
     loop-again

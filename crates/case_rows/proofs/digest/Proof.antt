@@ -1,19 +1,22 @@
--- `digest` is safe and ends: each turn reduces the number first, so that it fits, and takes one byte more.
+-- `digest` meets its contract: the digest of the rest from here equals the digest of the whole.
 -- Assumes nothing.
-use Prim.Native.Nat.{_-_}
+use mathlib.Core.Path.{_≡_, refl}
+use Prim.Native.Nat.{_-_, _≤_, _<_}
 use native.Mathlib.Omega.{arith}
-use lib.ListN.{length}
-use Rattle.journal_cases.proofs.digest.Statement.{statement}
-use Rattle.journal_cases.proofs.digest.Tie as tie
+use lib.ListN.{length, drop}
+use Rattle.case_rows.specs.Rows.{digestFrom}
+use Rattle.case_rows.proofs.Digests.{digest-again, digest-end}
+use Rattle.case_rows.proofs.digest.Statement.{statement}
+use Rattle.case_rows.proofs.digest.Tie as tie
 
 abbrev Inv-loop : tie.InvT-loop
-Inv-loop s d₀ i₀ d i = Unit {0}
+Inv-loop s d₀ i₀ d i = digestFrom d (drop i s) ≡ digestFrom 1 s
 
 abbrev μ-loop : tie.MeasureT-loop
 μ-loop s d₀ i₀ d i = length s - i
 
 loop-holds : tie.Need-loop-holds Inv-loop μ-loop
-loop-holds c = tt
+loop-holds c = refl
 
 mul-d : tie.Need-mul-d Inv-loop μ-loop
 mul-d c = omega arith
@@ -34,10 +37,18 @@ loop-less : tie.Need-loop-less Inv-loop μ-loop
 loop-less c = omega arith
 
 loop-again : tie.Need-loop-again Inv-loop μ-loop
-loop-again c = tt
+loop-again c =
+    let a = c .before .before in
+    let s = a .before .args .s .now in
+    let h : a .loop .i < length s = omega arith in
+    digest-again s (digestFrom 1 s) (a .loop .d) (a .loop .i) (a .loop .inv) h
 
 returns : tie.Need-returns Inv-loop μ-loop
-returns c = tt
+returns c =
+    let a = c .before in
+    let s = a .before .args .s .now in
+    let h : length s ≤ a .loop .i = omega arith in
+    digest-end s (digestFrom 1 s) (a .loop .d) (a .loop .i) (a .loop .inv) h
 
 pub digest-spec : {M : Type 1} → statement M
 digest-spec =

@@ -1,0 +1,62 @@
+-- `pattern` is safe and ends: each turn writes one byte more.
+-- Assumes nothing.
+use mathlib.Core.Path.{_≡_, refl}
+use Prim.Native.Nat.{_-_, _%_, _≤_}
+use native.Mathlib.Nat.{mul-le-mul}
+use native.Mathlib.Omega.{arith}
+use lib.ListN.{length}
+use borrow.Author.Needs.{needs}
+use Rattle.file_cases.proofs.pattern.Statement.{statement}
+use Rattle.file_cases.proofs.pattern.Tie as tie
+
+abbrev Inv-loop : tie.InvT-loop
+Inv-loop s₀ step i₀ s i = length s ≡ length s₀
+
+abbrev μ-loop : tie.MeasureT-loop
+μ-loop s₀ step i₀ s i = length s₀ - i
+
+loop-holds : tie.Need-loop-holds Inv-loop μ-loop
+loop-holds c = refl
+
+mul-s : tie.Need-mul-s Inv-loop μ-loop
+mul-s c =
+    let m : (c .before .loop .i) % 251 ≤ 250 = omega arith in
+    let k : c .before .before .args .step ≤ 250 = omega arith in
+    omega (arith, mul-le-mul m k)
+
+cast-s : tie.Need-cast-s Inv-loop μ-loop
+cast-s c = omega arith
+
+slice-write-s : tie.Need-slice-write-s Inv-loop μ-loop
+slice-write-s c = omega arith
+
+add-i : tie.Need-add-i Inv-loop μ-loop
+add-i c = omega arith
+
+loop-less : tie.Need-loop-less Inv-loop μ-loop
+loop-less c = omega arith
+
+loop-again : tie.Need-loop-again Inv-loop μ-loop
+loop-again c = search needs
+
+same-length : tie.Need-same-length Inv-loop μ-loop
+same-length c = omega arith
+
+returns : tie.Need-returns Inv-loop μ-loop
+returns c = tt
+
+pub pattern-spec : {M : Type 1} → statement M
+pattern-spec =
+    tie.close
+    (tie.spec
+    Inv-loop
+    μ-loop
+    loop-holds
+    mul-s
+    cast-s
+    slice-write-s
+    add-i
+    loop-less
+    loop-again
+    same-length
+    returns)

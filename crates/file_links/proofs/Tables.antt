@@ -1,0 +1,103 @@
+-- A table of links by its indices, and the judgement of it from an index on.
+-- Assumes nothing.
+use mathlib.Core.Path.{_≡_, sym, ap, _∙_}
+use mathlib.Core.Bool.{Bool, true, false, not, _&&_}
+use mathlib.Core.List.{List, [], _∷_, _++_, append-nil}
+use Prim.Native.Nat.{ℕ, zero, suc, _+_, _-_, _≤_, _<_}
+use native.Mathlib.Omega.{arith}
+use native.Mathlib.Numerals.{add-one}
+use lib.Dec.{leb, eqb}
+use lib.ListN.{length, take, drop, getD, drop-of-length-le}
+use lib.Seq.{drop-cons}
+use borrow.Author.Tests.{eq-eqb, ne-eqb, eqb-true, le-leb, lt-leb, leb-true, not-true, not-false}
+use Rattle.le.proofs.Runs.{and-left, and-right}
+use Rattle.usn_record.specs.Layout.{goodName}
+use Rattle.file_links.specs.Links.{Link, linksOf, nameAt, goodLink, goodLinks, goodTable}
+
+-- ---- one link
+
+-- a name that ends past the pool
+pub link-past : (pool : List ℕ) (l : Link) → length pool < l .place + l .length → false ≡ goodLink pool l
+unfolding goodLink
+link-past pool l h = rw (lt-leb _ _ h)
+
+-- a name inside the pool, judged as two parts of which the second is empty
+pub link-inside : (pool : List ℕ) (p n k : ℕ) (empty : List ℕ) (r : Bool) → p + n ≤ length pool → k ≡ n → empty ≡ []
+    → r ≡ goodName (take k (drop p pool) ++ empty) → r ≡ goodLink pool (record { place = p; length = n; short = 0 })
+unfolding goodLink
+link-inside pool p n k empty r h e z g =
+    g ∙ rw (e, z, append-nil, le-leb _ _ h)
+
+-- an empty part
+pub part-empty : (t : ℕ) (l : List ℕ) → take (t - t) l ≡ []
+part-empty t l = let z : t - t ≡ 0 = omega arith in rw z
+
+-- what a good link tells
+pub link-fits : (pool : List ℕ) (l : Link) → goodLink pool l ≡ true → l .place + l .length ≤ length pool
+unfolding goodLink
+link-fits pool l e = leb-true _ _ (and-left _ _ e)
+
+pub link-named : (pool : List ℕ) (l : Link) → goodLink pool l ≡ true → goodName (nameAt pool l) ≡ true
+unfolding goodLink
+link-named pool l e = and-right (leb (l .place + l .length) (length pool)) _ e
+
+-- ---- the table
+
+-- the link at an index
+abbrev pub linkAt : List ℕ → List ℕ → List ℕ → ℕ → Link
+linkAt places lengths shorts i = record { place = getD places i 0; length = getD lengths i 0; short = getD shorts i 0 }
+
+-- every link of a good list is good
+pub links-good : (pool places lengths shorts : List ℕ) (i : ℕ) → length lengths ≡ length places → length shorts ≡ length places
+    → goodLinks pool (linksOf places lengths shorts) ≡ true → i < length places → goodLink pool (linkAt places lengths shorts i) ≡ true
+unfolding goodLinks linksOf
+links-good pool [] lengths shorts i a b g h = absurd (omega arith)
+links-good pool (p ∷ places) [] shorts i a b g h = absurd (omega arith)
+links-good pool (p ∷ places) (n ∷ lengths) [] i a b g h = absurd (omega arith)
+links-good pool (p ∷ places) (n ∷ lengths) (s ∷ shorts) zero a b g h = and-left _ _ g
+links-good pool (p ∷ places) (n ∷ lengths) (s ∷ shorts) (suc i) a b g h =
+    links-good pool places lengths shorts i (omega arith) (omega arith) (and-right (goodLink pool (record { place = p; length = n; short = s })) _ g) (omega arith)
+
+module _ (pool places lengths shorts : List ℕ) where
+  -- the judgement of the links from index i on
+  abbrev pub judged : ℕ → Bool
+  judged i = goodLinks pool (linksOf (drop i places) (drop i lengths) (drop i shorts))
+
+  pub lengths-differ : (length lengths ≡ length places → ⊥) → false ≡ goodTable pool places lengths shorts
+  unfolding goodTable
+  lengths-differ h = rw (ne-eqb _ _ h)
+
+  pub shorts-differ : length lengths ≡ length places → (length shorts ≡ length places → ⊥) → false ≡ goodTable pool places lengths shorts
+  unfolding goodTable
+  shorts-differ a h = rw (eq-eqb _ _ a, ne-eqb _ _ h)
+
+  module _ (a : length lengths ≡ length places) (b : length shorts ≡ length places) where
+    pub judged-start : judged 0 ≡ goodTable pool places lengths shorts
+    unfolding goodTable
+    judged-start = rw (eq-eqb _ _ a, eq-eqb _ _ b)
+
+    module _ (i : ℕ) (h : i < length places) (r : Bool) (e : r ≡ goodLink pool (record { place = getD places i 0; length = getD lengths i 0; short = 0 })) where
+      opened : judged i ≡ r && judged (i + 1)
+      unfolding goodLinks linksOf goodLink
+      opened = rw (add-one, e, drop-cons places i 0 h, drop-cons lengths i 0 (omega (arith, a)), drop-cons shorts i 0 (omega (arith, b)))
+
+      pub judged-good : not r ≡ false → judged i ≡ goodTable pool places lengths shorts → judged (i + 1) ≡ goodTable pool places lengths shorts
+      judged-good t v = let k : r ≡ true = not-false r t in sym (opened ∙ ap (λ (x : Bool). x && judged (i + 1)) k) ∙ v
+
+      pub judged-bad : not r ≡ true → judged i ≡ goodTable pool places lengths shorts → false ≡ goodTable pool places lengths shorts
+      judged-bad t v = let k : r ≡ false = not-true r t in sym (opened ∙ ap (λ (x : Bool). x && judged (i + 1)) k) ∙ v
+
+  pub judged-end : (i : ℕ) → length places ≤ i → judged i ≡ goodTable pool places lengths shorts → true ≡ goodTable pool places lengths shorts
+  unfolding goodLinks linksOf
+  judged-end i h v = sym (ap (λ (x : List ℕ). goodLinks pool (linksOf x (drop i lengths) (drop i shorts))) (drop-of-length-le places h)) ∙ v
+
+  -- what a good table tells
+  pub table-told : goodTable pool places lengths shorts ≡ true
+      → (length lengths ≡ length places) × (length shorts ≡ length places) × (goodLinks pool (linksOf places lengths shorts) ≡ true)
+  unfolding goodTable
+  table-told g =
+      let k = and-right (eqb (length lengths) (length places)) _ g in (
+        eqb-true _ _ (and-left _ _ g),
+        eqb-true _ _ (and-left (eqb (length shorts) (length places)) _ k),
+        and-right (eqb (length shorts) (length places)) _ k,
+      )

@@ -1,0 +1,4 @@
+pub mod Judging
+pub mod Dividing
+pub mod Writing
+pub mod Examples

@@ -1,0 +1,58 @@
+-- FSCTL_READ_FILE_USN_DATA: a record of the file as it is now.
+use mathlib.Core.Bool.{Bool, _&&_}
+use mathlib.Core.List.{List}
+use mathlib.Core.Option.{Option}
+use Prim.Native.Nat.{ℕ, _+_, _^_}
+use lib.Dec.{leb, ltb}
+use lib.ListN.{length}
+use Rattle.status.specs.declared.Status.{Status}
+use Rattle.status.specs.declared.Status.the-variants.{Success, InvalidDeviceRequest, BufferTooSmall, FileCorruptError}
+use Rattle.status.specs.Check.{unless, else}
+use Rattle.status.specs.Reply.{Reply, give, guard}
+use Rattle.volume.specs.declared.Volume.{Volume}
+use Rattle.volume.specs.State.{supported}
+use Rattle.usn_record.specs.declared.Version.{Version}
+use Rattle.usn_record.specs.declared.Fields.{Fields}
+use Rattle.usn_record.specs.Version.{versionsIn, versionIn}
+use Rattle.usn_record.specs.Layout.{nameOffset, recordLength, layout}
+use Rattle.file_record.specs.declared.FileRecord.{FileRecord}
+use Rattle.file_links.specs.Links.{linksOf, goodTable, chosenLink, nameOf}
+
+-- an input shorter than 4 bytes is ignored, and the version is 2; else Min and Max
+abbrev pub fileVersions : List ℕ → Option Status
+fileVersions input = versionsIn 4 0 input
+
+abbrev pub fileVersion : List ℕ → Version
+fileVersion input = versionIn 4 0 input
+
+-- support; the file's Usn and its whole table of links; the versions; a record with a name of 4 bytes, 64 or 80 bytes, has room
+unfoldable pub fileCheck : Volume → FileRecord → Bool → List ℕ → ℕ → Option Status
+fileCheck v f table input room =
+    else (unless (supported (v .usn)) InvalidDeviceRequest)
+    (else (unless (ltb (f .usn) (2 ^ 63) && table) FileCorruptError)
+    (else (fileVersions input) (unless (leb (nameOffset (fileVersion input) + 4) room) BufferTooSmall)))
+
+-- TimeStamp, Reason, SourceInfo and SecurityId are 0; the parent is that of the open's own link
+abbrev pub fileFields : FileRecord → ℕ → Fields
+fileFields f parent =
+    record {
+      file = f .id;
+      parent = parent;
+      usn = f .usn;
+      time = 0;
+      reason = 0;
+      source = 0;
+      security = 0;
+      attributes = f .attributes;
+    }
+
+-- the record with this name, if it has room
+unfoldable pub fileAnswer : Version → FileRecord → ℕ → List ℕ → ℕ → Reply
+fileAnswer v f parent name room =
+    guard (unless (leb (recordLength v (length name)) room) BufferTooSmall) (give Success (layout v (fileFields f parent) name))
+
+-- the reply of the whole control, with `room` bytes of output
+unfoldable pub fileReply : Volume → FileRecord → ℕ → List ℕ → List ℕ → List ℕ → List ℕ → List ℕ → ℕ → Reply
+fileReply v f parent pool places lengths shorts input room =
+    guard (fileCheck v f (goodTable pool places lengths shorts) input room)
+    (fileAnswer (fileVersion input) f parent (nameOf pool (chosenLink (linksOf places lengths shorts))) room)

@@ -1,0 +1,112 @@
+// FSCTL_READ_FILE_USN_DATA (000): a USN record of the file as it is now.
+ghost use mathlib.Core.Path.{_≡_};
+ghost use mathlib.Core.Bool.{true};
+ghost use Prim.Native.Nat.{ℕ, _<_, _^_};
+ghost use lib.ListN.{length};
+ghost use Rattle.status.specs.Reply.{Replied};
+ghost use Rattle.usn_record.specs.Version.{chosen};
+ghost use Rattle.file_links.specs.Links.{linksOf, goodTable, chosenLink, nameOf};
+ghost use Rattle.file_usn.specs.FileUsn.{fileVersion, fileCheck, fileFields, fileAnswer, fileReply};
+use file_links::choose_name;
+use file_links::good_table;
+use file_record::FileRecord;
+use record_writer::write_record;
+use status::Answer;
+use status::Status;
+use usn_record::Choice;
+use usn_record::Fields;
+use usn_record::Version;
+use usn_record::input_version;
+use usn_record::name_offset;
+use volume::Volume;
+
+// The version to reply in, or the first check that refuses the call. `table` says whether the table of links is right.
+fn judge_file(v: Volume, f: FileRecord, table: bool, input: &[u8], room: usize) -> Choice
+    ensures { λ r. ⌜ r ≡ chosen (fileCheck v f table (now (input .entry)) room) (fileVersion (now (input .entry))) ⌝ }
+{
+    if v.usn == 0 {
+        return Choice::Refuse(Status::InvalidDeviceRequest);
+    }
+    if 0x8000_0000_0000_0000 <= f.usn {
+        return Choice::Refuse(Status::FileCorruptError);
+    }
+    if !table {
+        return Choice::Refuse(Status::FileCorruptError);
+    }
+    let choice = input_version(input, 4, 0);
+    match choice {
+        Choice::Refuse(x) => Choice::Refuse(x),
+        Choice::Use(version) => {
+            if room < name_offset(version) + 4 {
+                return Choice::Refuse(Status::BufferTooSmall);
+            }
+            Choice::Use(version)
+        }
+    }
+}
+
+// The fields of a file's record.
+fn fields_of(f: FileRecord, parent: u64) -> Fields
+    ensures { λ r. ⌜ r ≡ fileFields f parent ⌝ }
+{
+    Fields {
+        file: f.id,
+        parent,
+        usn: f.usn,
+        time: 0,
+        reason: 0,
+        source: 0,
+        security: 0,
+        attributes: f.attributes,
+    }
+}
+
+// Writes the record of a file whose table of links is right, in version v.
+fn write_file(
+    v: Version,
+    fields: Fields,
+    pool: &[u8],
+    places: &[u32],
+    lengths: &[u32],
+    shorts: &[u32],
+    output: &mut [u8],
+) -> Answer
+    requires { ⌜ (goodTable (now pool) (now places) (now lengths) (now shorts) ≡ true) × (fields .usn < 2 ^ 63) ⌝ }
+    ensures { λ r. ⌜ ((f : FileRecord) (p : ℕ) → fields ≡ fileFields f p → Replied (fileAnswer v f p (nameOf (now (pool .entry)) (chosenLink (linksOf (now (places .entry)) (now (lengths .entry)) (now (shorts .entry))))) (length (now (output .entry)))) r (now (output .entry)) (now (output .exit))) ⌝ }
+{
+    let name = choose_name(pool, places, lengths, shorts);
+    let from = name.place;
+    let to = from + name.length;
+    write_record(output, v, fields, &pool[from..to])
+}
+
+// Reads a file's USN data. The parent is that of the open's own link; the links are lent as the places and lengths of their names
+// in the pool and the lengths of their short names.
+pub fn read_file_usn(
+    v: Volume,
+    f: FileRecord,
+    parent: u64,
+    pool: &[u8],
+    places: &[u32],
+    lengths: &[u32],
+    shorts: &[u32],
+    input: &[u8],
+    output: &mut [u8],
+) -> Answer
+    ensures { λ r. ⌜ Replied (fileReply v f parent (now (pool .entry)) (now (places .entry)) (now (lengths .entry)) (now (shorts .entry)) (now (input .entry)) (length (now (output .entry)))) r (now (output .entry)) (now (output .exit)) ⌝ }
+{
+    let table = good_table(pool, places, lengths, shorts);
+    let choice = judge_file(v, f, table, input, output.len());
+    match choice {
+        Choice::Refuse(x) => status::refused(x),
+        Choice::Use(version) => write_file(
+            version,
+            fields_of(f, parent),
+            pool,
+            places,
+            lengths,
+            shorts,
+            output,
+        ),
+    }
+}

@@ -1,0 +1,43 @@
+-- The published examples: a symbolic link's tag with 20 bytes of data, and a file without a reparse point.
+-- Assumes nothing.
+use mathlib.Core.Path.{_≡_, refl}
+use mathlib.Core.List.{List, [], _∷_, map}
+use Prim.Native.Nat.{ℕ}
+use lib.ListN.{replicate}
+use Rattle.le.specs.Numbers.{le, encode}
+use Rattle.status.specs.declared.Status.the-variants.{Success, BufferTooSmall, NotAReparsePoint}
+use Rattle.status.specs.Reply.{Reply, refuse, give}
+use Rattle.volume.specs.declared.Volume.{Volume}
+use Rattle.file_record.specs.declared.FileRecord.{FileRecord}
+use Rattle.reparse_point.specs.Reparse.{mostData, headerLength, header, reparseCheck, reparseBytes, reparseReply}
+
+abbrev pub volume : Volume
+volume = record { usn = 0; regions = 0; reparse = 1; points = 1; journal = 0; state = 0; id = 0; first = 0; last = 0; capacity = 0 }
+
+abbrev pub file : ℕ → FileRecord
+file tag = record { id = 1; attributes = 0x400; usn = 0; eof = 0; valid = 0; tag = tag; guid = replicate 16 0 }
+
+abbrev pub twenty : List ℕ
+twenty = 1 ∷ 2 ∷ 3 ∷ 4 ∷ 5 ∷ 6 ∷ 7 ∷ 8 ∷ 9 ∷ 10 ∷ 11 ∷ 12 ∷ 13 ∷ 14 ∷ 15 ∷ 16 ∷ 17 ∷ 18 ∷ 19 ∷ 20 ∷ []
+
+-- a tag, its data, the room, and the reply
+pub record Example : Type 0 where
+  pub tag : ℕ
+  pub bytes : List ℕ
+  pub room : ℕ
+  pub reply : Reply
+
+abbrev pub row : ℕ → List ℕ → ℕ → Reply → Example
+row tag bytes room reply = record { tag = tag; bytes = bytes; room = room; reply = reply }
+
+abbrev pub examples : List Example
+examples =
+    row 0xA000000C twenty 7 (refuse BufferTooSmall)
+    ∷ row 0xA000000C twenty 18 (give Success (0x0C ∷ 0 ∷ 0 ∷ 0xA0 ∷ 20 ∷ 0 ∷ 0 ∷ 0 ∷ 1 ∷ 2 ∷ 3 ∷ 4 ∷ 5 ∷ 6 ∷ 7 ∷ 8 ∷ 9 ∷ 10 ∷ []))
+    ∷ row 0 [] 18 (refuse NotAReparsePoint)
+    ∷ []
+
+-- each call gives its reply
+pub reparse-right : map (λ (e : Example). reparseReply volume (file (e .tag)) (e .bytes) (e .room)) examples ≡ map (λ (e : Example). e .reply) examples
+unfolding le encode mostData headerLength header reparseCheck reparseBytes reparseReply
+reparse-right = refl
