@@ -1,4 +1,4 @@
-// FSCTL_QUERY_FILE_REGIONS (001): which part of a file's range holds valid data.
+// FSCTL_QUERY_FILE_REGIONS: which part of a file's range holds valid data.
 ghost use mathlib.Core.Path.{_≡_};
 ghost use mathlib.Core.Bool.{true, _||_};
 ghost use mathlib.Core.Option.{none};

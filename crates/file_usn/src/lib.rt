@@ -1,4 +1,4 @@
-// FSCTL_READ_FILE_USN_DATA (000): a USN record of the file as it is now.
+// FSCTL_READ_FILE_USN_DATA: a USN record of the file as it is now.
 ghost use mathlib.Core.Path.{_≡_};
 ghost use mathlib.Core.Bool.{true};
 ghost use Prim.Native.Nat.{ℕ, _<_, _^_};

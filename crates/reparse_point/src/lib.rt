@@ -1,4 +1,4 @@
-// FSCTL_GET_REPARSE_POINT (002): a file's reparse tag and data.
+// FSCTL_GET_REPARSE_POINT: a file's reparse tag and data.
 ghost use mathlib.Core.Path.{_≡_};
 ghost use mathlib.Core.List.{_++_};
 ghost use Prim.Native.Nat.{_+_, _-_, _≤_};
