@@ -1,23 +1,40 @@
--- The link whose name stands for a file, by the index of the first number that is not 0.
+-- The link whose name stands for a file: it is a good one, and which one it is by the index of the first number that is not 0.
 -- Assumes nothing.
 use mathlib.Core.Path.{_≡_, refl, sym, ap, _∙_}
-use mathlib.Core.Bool.{Bool, true, false}
-use mathlib.Core.List.{List, [], _∷_}
-use mathlib.Core.Option.{Option, none, some}
+use mathlib.Core.Bool.{Bool, true, false, not, cond}
+use mathlib.Core.List.{List, [], _∷_, map}
 use Prim.Native.Nat.{ℕ, zero, suc, _+_, _≤_, _<_}
 use native.Mathlib.Omega.{arith}
 use native.Mathlib.Numerals.{add-one}
-use lib.Dec.{leb, eqb}
-use lib.ListN.{length, take, drop, getD, drop-of-length-le}
+use lib.Dec.{eqb}
+use lib.ListN.{length, drop, getD, drop-of-length-le, List·getD-eq-default}
 use lib.Seq.{drop-cons}
-use borrow.Author.Tests.{eq-eqb, ne-eqb, leb-true, leb-false}
+use borrow.Author.Tests.{eq-eqb, ne-eqb, le-leb}
+use Rattle.le.proofs.Runs.{and-left, and-right}
 use Rattle.usn_record.specs.Layout.{goodName}
-use Rattle.file_links.specs.Links.{Link, linksOf, goodLink, goodTable, hasShort, hasName, firstOf, orElse, chosenLink, nameOf, firstNonzero}
-use Rattle.file_links.proofs.Tables.{linkAt, links-good, link-fits, link-named, table-told}
+use Rattle.file_links.specs.declared.Link.{Link}
+use Rattle.file_links.specs.Links.{linksOf, goodLink, goodLinks, has, firstOf, noLink, chosenLink, firstNonzero}
+use Rattle.file_links.proofs.Tables.{linkAt}
 
-empty-good : goodName [] ≡ true
-unfolding goodName
-empty-good = refl
+-- ---- the chosen link is a good one
+
+either-good : (pool : List ℕ) (b : Bool) (l m : Link) → goodLink pool l ≡ true → goodLink pool m ≡ true → goodLink pool (cond b l m) ≡ true
+either-good pool true l m g h = g
+either-good pool false l m g h = h
+
+pub first-good : (pool : List ℕ) (short : Bool) (ls : List Link) (other : Link) → goodLinks pool ls ≡ true → goodLink pool other ≡ true
+    → goodLink pool (firstOf short ls other) ≡ true
+unfolding goodLinks firstOf
+first-good pool short [] other g h = h
+first-good pool short (l ∷ ls) other g h =
+    either-good pool (has short l) l (firstOf short ls other) (and-left _ _ g) (first-good pool short ls other (and-right (goodLink pool l) _ g) h)
+
+pub no-link-good : (pool : List ℕ) → goodLink pool noLink ≡ true
+unfolding goodLink goodName
+no-link-good pool = rw (le-leb 0 (length pool) (omega arith))
+
+pub chosen-good : (pool : List ℕ) (ls : List Link) → goodLinks pool ls ≡ true → goodLink pool (chosenLink ls) ≡ true
+chosen-good pool ls g = first-good pool true ls (firstOf false ls noLink) g (first-good pool false ls noLink g (no-link-good pool))
 
 -- ---- the first number that is not 0, from index i on
 
@@ -36,104 +53,83 @@ module _ (s : List ℕ) (i : ℕ) where
 
 -- ---- the first link of a kind
 
-suc-not : (x : ℕ) → eqb (suc x) 0 ≡ false
-suc-not x = ne-eqb (suc x) 0 (λ e. omega arith)
+-- the number that is 0 where a link has none
+abbrev asked : Bool → Link → ℕ
+asked true l = l .short
+asked false l = l .length
 
-first-suc : (x : ℕ) (xs : List ℕ) → firstNonzero (suc x ∷ xs) ≡ 0
-unfolding firstNonzero
-first-suc x xs = rw (suc-not x)
+pub has-asked : (short b : Bool) (l : Link) → short ≡ b → not (eqb (asked b l) 0) ≡ has short l
+has-asked short true l e = ap (λ (x : Bool). has x l) (sym e)
+has-asked short false l e = ap (λ (x : Bool). has x l) (sym e)
 
-pub short-some : (places lengths shorts : List ℕ) → length lengths ≡ length places → length shorts ≡ length places
-    → firstNonzero shorts < length shorts → firstOf hasShort (linksOf places lengths shorts) ≡ some (linkAt places lengths shorts (firstNonzero shorts))
-unfolding firstOf linksOf firstNonzero
-short-some [] lengths [] a b h = absurd (omega arith)
-short-some [] lengths (s ∷ shorts) a b h = absurd (omega arith)
-short-some (p ∷ places) [] shorts a b h = absurd (omega arith)
-short-some (p ∷ places) (n ∷ lengths) [] a b h = absurd (omega arith)
-short-some (p ∷ places) (n ∷ lengths) (zero ∷ shorts) a b h = short-some places lengths shorts (omega arith) (omega arith) (omega arith)
-short-some (p ∷ places) (n ∷ lengths) (suc s ∷ shorts) a b h = rw (suc-not s)
+first-step : (b : Bool) (l : Link) (ls : List Link) (other found : Link) (n : ℕ) → found ≡ getD ls n other → cond (not b) l found ≡ getD (l ∷ ls) (cond b (suc n) 0) other
+first-step true l ls other found n e = e
+first-step false l ls other found n e = refl
 
-pub short-none : (places lengths shorts : List ℕ) → length shorts ≤ firstNonzero shorts → firstOf hasShort (linksOf places lengths shorts) ≡ none
-unfolding firstOf linksOf firstNonzero
-short-none [] lengths shorts h = refl
-short-none (p ∷ places) [] shorts h = refl
-short-none (p ∷ places) (n ∷ lengths) [] h = refl
-short-none (p ∷ places) (n ∷ lengths) (zero ∷ shorts) h = short-none places lengths shorts (omega arith)
-short-none (p ∷ places) (n ∷ lengths) (suc s ∷ shorts) h = absurd (omega (arith, first-suc s shorts))
+-- it is the one at the first number that is not 0
+first-found : (short : Bool) (ls : List Link) (other : Link) → firstOf short ls other ≡ getD ls (firstNonzero (map (asked short) ls)) other
+unfolding firstOf firstNonzero
+first-found short [] other = refl
+first-found short (l ∷ ls) other =
+    ap (λ (b : Bool). cond b l (firstOf short ls other)) (sym (has-asked short short l refl))
+    ∙ first-step (eqb (asked short l) 0) l ls other (firstOf short ls other) (firstNonzero (map (asked short) ls)) (first-found short ls other)
 
-pub named-some : (places lengths shorts : List ℕ) → length lengths ≡ length places → length shorts ≡ length places
-    → firstNonzero lengths < length lengths → firstOf hasName (linksOf places lengths shorts) ≡ some (linkAt places lengths shorts (firstNonzero lengths))
-unfolding firstOf linksOf firstNonzero
-named-some [] [] shorts a b h = absurd (omega arith)
-named-some [] (n ∷ lengths) shorts a b h = absurd (omega arith)
-named-some (p ∷ places) [] shorts a b h = absurd (omega arith)
-named-some (p ∷ places) (n ∷ lengths) [] a b h = absurd (omega arith)
-named-some (p ∷ places) (zero ∷ lengths) (s ∷ shorts) a b h = named-some places lengths shorts (omega arith) (omega arith) (omega arith)
-named-some (p ∷ places) (suc n ∷ lengths) (s ∷ shorts) a b h = rw (suc-not n)
+-- ---- a table that is lent as three runs of numbers
 
-pub named-none : (places lengths shorts : List ℕ) → length lengths ≤ firstNonzero lengths → firstOf hasName (linksOf places lengths shorts) ≡ none
-unfolding firstOf linksOf firstNonzero
-named-none [] lengths shorts h = refl
-named-none (p ∷ places) [] shorts h = refl
-named-none (p ∷ places) (n ∷ lengths) [] h = refl
-named-none (p ∷ places) (zero ∷ lengths) (s ∷ shorts) h = named-none places lengths shorts (omega arith)
-named-none (p ∷ places) (suc n ∷ lengths) (s ∷ shorts) h = absurd (omega (arith, first-suc n lengths))
+-- its links give the runs back
+lent : (places lengths shorts : List ℕ) → length lengths ≡ length places → length shorts ≡ length places
+    → (map (asked true) (linksOf places lengths shorts) ≡ shorts) × (map (asked false) (linksOf places lengths shorts) ≡ lengths) × (length (linksOf places lengths shorts) ≡ length places)
+unfolding linksOf
+lent [] [] [] a b = (refl, refl, refl)
+lent [] [] (s ∷ shorts) a b = absurd (omega arith)
+lent [] (n ∷ lengths) shorts a b = absurd (omega arith)
+lent (p ∷ places) [] shorts a b = absurd (omega arith)
+lent (p ∷ places) (n ∷ lengths) [] a b = absurd (omega arith)
+lent (p ∷ places) (n ∷ lengths) (s ∷ shorts) a b =
+    let t = lent places lengths shorts (omega arith) (omega arith) in
+    (ap (λ (l : List ℕ). s ∷ l) (t .0), ap (λ (l : List ℕ). n ∷ l) (t .1), ap suc (t .2))
 
--- ---- the chosen link of a good table
+-- the link at an index
+lent-at : (places lengths shorts : List ℕ) (i : ℕ) (other : Link) → length lengths ≡ length places → length shorts ≡ length places → i < length places
+    → getD (linksOf places lengths shorts) i other ≡ linkAt places lengths shorts i
+unfolding linksOf
+lent-at [] lengths shorts i other a b h = absurd (omega arith)
+lent-at (p ∷ places) [] shorts i other a b h = absurd (omega arith)
+lent-at (p ∷ places) (n ∷ lengths) [] i other a b h = absurd (omega arith)
+lent-at (p ∷ places) (n ∷ lengths) (s ∷ shorts) zero other a b h = refl
+lent-at (p ∷ places) (n ∷ lengths) (s ∷ shorts) (suc i) other a b h = lent-at places lengths shorts i other (omega arith) (omega arith) (omega arith)
 
-module _ (pool places lengths shorts : List ℕ) (g : goodTable pool places lengths shorts ≡ true) where
-  -- the link at i is the chosen one; with i past the table there is none
+module _ (places lengths shorts : List ℕ) (a : length lengths ≡ length places) (b : length shorts ≡ length places) where
+  abbrev links : List Link
+  links = linksOf places lengths shorts
+
+  -- the chosen link is the one at i; with i past the table, none
   abbrev pub Picked : ℕ → Type 0
-  Picked i =
-      (length shorts ≤ i → chosenLink (linksOf places lengths shorts) ≡ none)
-      × (i < length shorts → chosenLink (linksOf places lengths shorts) ≡ some (linkAt places lengths shorts i))
+  Picked i = getD links i noLink ≡ chosenLink links
 
-  pub pick-short : (i short : ℕ) → short ≡ firstNonzero shorts → short < length shorts → i ≡ short → Picked i
+  first-at : (short : Bool) (run : List ℕ) (other : Link) → map (asked short) links ≡ run → getD links (firstNonzero run) other ≡ firstOf short links other
+  first-at short run other e = ap (λ (l : List ℕ). getD links (firstNonzero l) other) (sym e) ∙ sym (first-found short links other)
+
+  past : (i : ℕ) (other : Link) → length places ≤ i → getD links i other ≡ other
+  past i other h = let t : length links ≡ length places = lent places lengths shorts a b .2 in List·getD-eq-default links other (omega (arith, t, h))
+
+  pub pick-short : (i short : ℕ) → short ≡ firstNonzero shorts → short < length places → i ≡ short → Picked i
   pick-short i short e h q =
-      let t = table-told pool places lengths shorts g in
-      let k : firstNonzero shorts ≡ i = sym (q ∙ e) in
-      let l = short-some places lengths shorts (t .0) (t .1) (omega (arith, e, h)) in (
-        λ x. absurd (omega (arith, q, h, x)),
-        λ x. ap (λ (o : Option Link). orElse o (firstOf hasName (linksOf places lengths shorts))) l ∙ ap (λ (j : ℕ). some (linkAt places lengths shorts j)) k,
-      )
+      let other = firstOf false links noLink in
+      let k : i ≡ firstNonzero shorts = q ∙ e in
+      let j : i < length places = omega arith in
+      lent-at places lengths shorts i noLink a b j ∙ sym (lent-at places lengths shorts i other a b j) ∙ ap (λ (x : ℕ). getD links x other) k
+      ∙ first-at true shorts other (lent places lengths shorts a b .0)
 
-  pub pick-named : (i short named : ℕ) → short ≡ firstNonzero shorts → named ≡ firstNonzero lengths → length shorts ≤ short → i ≡ named → Picked i
+  pub pick-named : (i short named : ℕ) → short ≡ firstNonzero shorts → named ≡ firstNonzero lengths → length places ≤ short → i ≡ named → Picked i
   pick-named i short named e d h q =
-      let t = table-told pool places lengths shorts g in
-      let k : firstNonzero lengths ≡ i = sym (q ∙ d) in
-      let n = short-none places lengths shorts (omega (arith, e, h)) in
-      let m = ap (λ (o : Option Link). orElse o (firstOf hasName (linksOf places lengths shorts))) n in (
-        λ x. m ∙ named-none places lengths shorts (omega (arith, k, x, t .0, t .1)),
-        λ x. m ∙ named-some places lengths shorts (t .0) (t .1) (omega (arith, k, x, t .0, t .1)) ∙ ap (λ (j : ℕ). some (linkAt places lengths shorts j)) k,
-      )
+      let t = lent places lengths shorts a b in
+      let other = firstOf false links noLink in
+      ap (λ (x : ℕ). getD links x noLink) (q ∙ d) ∙ first-at false lengths noLink (t .1) ∙ sym (past short other h) ∙ ap (λ (x : ℕ). getD links x other) e
+      ∙ first-at true shorts other (t .0)
 
-  link-good : (i : ℕ) → i < length shorts → goodLink pool (linkAt places lengths shorts i) ≡ true
-  link-good i h =
-      let t = table-told pool places lengths shorts g in
-      links-good pool places lengths shorts i (t .0) (t .1) (t .2) (omega (arith, t .1, h))
+  pub chosen-none : (i : ℕ) (r : Link) → Picked i → length places ≤ i → r ≡ noLink → r ≡ chosenLink links
+  chosen-none i r p h e = e ∙ sym (past i noLink h) ∙ p
 
-  pub chosen-nothing : (i : ℕ) → Picked i → length shorts ≤ i
-      → (0 ≤ length pool) × (_≡_ {A = List ℕ} [] (nameOf pool (chosenLink (linksOf places lengths shorts))))
-  chosen-nothing i p h = (omega arith, sym (ap (nameOf pool) (p .0 h)))
-
-  pub chosen-inside : (i : ℕ) → Picked i → i < length shorts
-      → (getD places i 0 + getD lengths i 0 ≤ length pool)
-      × (take (getD lengths i 0) (drop (getD places i 0) pool) ≡ nameOf pool (chosenLink (linksOf places lengths shorts)))
-  chosen-inside i p h = (link-fits pool (linkAt places lengths shorts i) (link-good i h), sym (ap (nameOf pool) (p .1 h)))
-
-  -- the name that is chosen is a good one
-  pub chosen-good : goodName (nameOf pool (chosenLink (linksOf places lengths shorts))) ≡ true
-  chosen-good = by (leb (length shorts) (firstNonzero shorts)) refl
-    where
-      at : (i : ℕ) → Picked i → goodName (nameOf pool (chosenLink (linksOf places lengths shorts))) ≡ true
-      at i p = go (leb (length shorts) i) refl
-        where
-          go : (b : Bool) → leb (length shorts) i ≡ b → goodName (nameOf pool (chosenLink (linksOf places lengths shorts))) ≡ true
-          go true e = ap (λ (o : Option Link). goodName (nameOf pool o)) (p .0 (leb-true _ _ e)) ∙ empty-good
-          go false e =
-              let h : i < length shorts = leb-false _ _ e in
-              ap (λ (o : Option Link). goodName (nameOf pool o)) (p .1 h) ∙ link-named pool (linkAt places lengths shorts i) (link-good i h)
-
-      by : (b : Bool) → leb (length shorts) (firstNonzero shorts) ≡ b → goodName (nameOf pool (chosenLink (linksOf places lengths shorts))) ≡ true
-      by true e = at (firstNonzero lengths) (pick-named (firstNonzero lengths) (firstNonzero shorts) (firstNonzero lengths) refl refl (leb-true _ _ e) refl)
-      by false e = at (firstNonzero shorts) (pick-short (firstNonzero shorts) (firstNonzero shorts) refl (leb-false _ _ e) refl)
+  pub chosen-at : (i : ℕ) → Picked i → i < length places → linkAt places lengths shorts i ≡ chosenLink links
+  chosen-at i p h = sym (lent-at places lengths shorts i noLink a b h) ∙ p

@@ -2,8 +2,8 @@
 -- Assumes nothing.
 use mathlib.Core.Path.{_≡_, sym, ap, _∙_}
 use mathlib.Core.Bool.{Bool, true, false, not, _&&_}
-use mathlib.Core.List.{List, [], _∷_, _++_, append-nil}
-use Prim.Native.Nat.{ℕ, zero, suc, _+_, _-_, _≤_, _<_}
+use mathlib.Core.List.{List, [], _++_, append-nil}
+use Prim.Native.Nat.{ℕ, _+_, _-_, _≤_, _<_}
 use native.Mathlib.Omega.{arith}
 use native.Mathlib.Numerals.{add-one}
 use lib.Dec.{leb, eqb}
@@ -12,7 +12,8 @@ use lib.Seq.{drop-cons}
 use borrow.Author.Tests.{eq-eqb, ne-eqb, eqb-true, le-leb, lt-leb, leb-true, not-true, not-false}
 use Rattle.le.proofs.Runs.{and-left, and-right}
 use Rattle.usn_record.specs.Layout.{goodName}
-use Rattle.file_links.specs.Links.{Link, linksOf, nameAt, goodLink, goodLinks, goodTable}
+use Rattle.file_links.specs.declared.Link.{Link}
+use Rattle.file_links.specs.Links.{linksOf, nameAt, goodLink, goodLinks, goodTable}
 
 -- ---- one link
 
@@ -22,11 +23,10 @@ unfolding goodLink
 link-past pool l h = rw (lt-leb _ _ h)
 
 -- a name inside the pool, judged as two parts of which the second is empty
-pub link-inside : (pool : List ℕ) (p n k : ℕ) (empty : List ℕ) (r : Bool) → p + n ≤ length pool → k ≡ n → empty ≡ []
-    → r ≡ goodName (take k (drop p pool) ++ empty) → r ≡ goodLink pool (record { place = p; length = n; short = 0 })
+pub link-inside : (pool : List ℕ) (l : Link) (k : ℕ) (empty : List ℕ) (r : Bool) → l .place + l .length ≤ length pool → k ≡ l .length → empty ≡ []
+    → r ≡ goodName (take k (drop (l .place) pool) ++ empty) → r ≡ goodLink pool l
 unfolding goodLink
-link-inside pool p n k empty r h e z g =
-    g ∙ rw (e, z, append-nil, le-leb _ _ h)
+link-inside pool l k empty r h e z g = g ∙ rw (e, z, append-nil, le-leb _ _ h)
 
 -- an empty part
 pub part-empty : (t : ℕ) (l : List ℕ) → take (t - t) l ≡ []
@@ -47,17 +47,6 @@ link-named pool l e = and-right (leb (l .place + l .length) (length pool)) _ e
 abbrev pub linkAt : List ℕ → List ℕ → List ℕ → ℕ → Link
 linkAt places lengths shorts i = record { place = getD places i 0; length = getD lengths i 0; short = getD shorts i 0 }
 
--- every link of a good list is good
-pub links-good : (pool places lengths shorts : List ℕ) (i : ℕ) → length lengths ≡ length places → length shorts ≡ length places
-    → goodLinks pool (linksOf places lengths shorts) ≡ true → i < length places → goodLink pool (linkAt places lengths shorts i) ≡ true
-unfolding goodLinks linksOf
-links-good pool [] lengths shorts i a b g h = absurd (omega arith)
-links-good pool (p ∷ places) [] shorts i a b g h = absurd (omega arith)
-links-good pool (p ∷ places) (n ∷ lengths) [] i a b g h = absurd (omega arith)
-links-good pool (p ∷ places) (n ∷ lengths) (s ∷ shorts) zero a b g h = and-left _ _ g
-links-good pool (p ∷ places) (n ∷ lengths) (s ∷ shorts) (suc i) a b g h =
-    links-good pool places lengths shorts i (omega arith) (omega arith) (and-right (goodLink pool (record { place = p; length = n; short = s })) _ g) (omega arith)
-
 module _ (pool places lengths shorts : List ℕ) where
   -- the judgement of the links from index i on
   abbrev pub judged : ℕ → Bool
@@ -76,7 +65,7 @@ module _ (pool places lengths shorts : List ℕ) where
     unfolding goodTable
     judged-start = rw (eq-eqb _ _ a, eq-eqb _ _ b)
 
-    module _ (i : ℕ) (h : i < length places) (r : Bool) (e : r ≡ goodLink pool (record { place = getD places i 0; length = getD lengths i 0; short = 0 })) where
+    module _ (i : ℕ) (h : i < length places) (r : Bool) (e : r ≡ goodLink pool (linkAt places lengths shorts i)) where
       opened : judged i ≡ r && judged (i + 1)
       unfolding goodLinks linksOf goodLink
       opened = rw (add-one, e, drop-cons places i 0 h, drop-cons lengths i 0 (omega (arith, a)), drop-cons shorts i 0 (omega (arith, b)))

@@ -1,24 +1,46 @@
-// A file's links, over plain slices of numbers: the places and lengths of their names in a pool, and the lengths of their short
-// names.
+// A file's links: when their table is right, and which one's name stands for the file. Here the table is lent as three slices of
+// numbers: the places and lengths of the names in a pool, and the lengths of the short names.
 ghost use mathlib.Core.Path.{_≡_};
-ghost use mathlib.Core.Bool.{true};
-ghost use Prim.Native.Nat.{_+_, _≤_};
-ghost use lib.ListN.{length, take, drop, getD};
-ghost use Rattle.file_links.specs.Links.{linksOf, goodLink, goodTable, chosenLink, nameOf, firstNonzero};
+ghost use Prim.Native.Nat.{_≤_};
+ghost use lib.ListN.{length};
+ghost use Rattle.file_links.specs.Links.{noLink, linksOf, goodLink, goodTable, has, chosenLink, firstNonzero};
 use usn_record::good_name;
 
-// Where the name that stands for a file lies in the pool.
-pub struct Name {
-    pub place: usize,
-    pub length: usize,
+// A link: the place and length of its name in a pool, and the length of its short name.
+#[repr(C)]
+pub struct Link {
+    pub place: u32,
+    pub length: u32,
+    pub short: u32,
 }
 
-// Whether a name of n bytes at `place` lies inside the pool and may be one.
-fn good_link(pool: &[u8], place: u32, n: u32) -> bool
-    ensures { λ r. ⌜ r ≡ goodLink (now (pool .entry)) (record { place = place; length = n; short = 0 }) ⌝ }
+// A link with an empty name.
+pub fn no_link() -> Link
+    ensures { λ r. ⌜ r ≡ noLink ⌝ }
 {
-    let from = place as usize;
-    let to = from + n as usize;
+    Link {
+        place: 0,
+        length: 0,
+        short: 0,
+    }
+}
+
+// Whether a link has a short name, or, where that is not asked for, a name.
+pub fn has_name(l: Link, short: bool) -> bool
+    ensures { λ r. ⌜ r ≡ has short l ⌝ }
+{
+    if short {
+        return l.short != 0;
+    }
+    l.length != 0
+}
+
+// Whether a link's name lies inside the pool and may be one.
+pub fn good_link(pool: &[u8], l: Link) -> bool
+    ensures { λ r. ⌜ r ≡ goodLink (now (pool .entry)) l ⌝ }
+{
+    let from = l.place as usize;
+    let to = from + l.length as usize;
     if pool.len() < to {
         return false;
     }
@@ -38,7 +60,12 @@ pub fn good_table(pool: &[u8], places: &[u32], lengths: &[u32], shorts: &[u32]) 
     }
     let mut i = 0;
     while i < n {
-        if !good_link(pool, places[i], lengths[i]) {
+        let link = Link {
+            place: places[i],
+            length: lengths[i],
+            short: shorts[i],
+        };
+        if !good_link(pool, link) {
             return false;
         }
         i += 1;
@@ -62,24 +89,22 @@ fn first_nonzero(s: &[u32]) -> usize
     }
 }
 
-// Where the name lies that stands for the file: that of the first link with a short name, where the search stops; with no such
-// link, of the first whose name is not empty; else an empty one.
-pub fn choose_name(pool: &[u8], places: &[u32], lengths: &[u32], shorts: &[u32]) -> Name
-    requires { ⌜ goodTable (now pool) (now places) (now lengths) (now shorts) ≡ true ⌝ }
-    ensures { λ r. ⌜ (r .place + r .length ≤ length (now (pool .entry))) × (take (r .length) (drop (r .place) (now (pool .entry))) ≡ nameOf (now (pool .entry)) (chosenLink (linksOf (now (places .entry)) (now (lengths .entry)) (now (shorts .entry))))) ⌝ }
+// The link whose name stands for the file: the first with a short name, where the search stops; with no such link, the first whose
+// name is not empty; else one with an empty name.
+pub fn choose_link(places: &[u32], lengths: &[u32], shorts: &[u32]) -> Link
+    requires { ⌜ (length (now lengths) ≡ length (now places)) × (length (now shorts) ≡ length (now places)) ⌝ }
+    ensures { λ r. ⌜ r ≡ chosenLink (linksOf (now (places .entry)) (now (lengths .entry)) (now (shorts .entry))) ⌝ }
 {
-    let n = shorts.len();
+    let n = places.len();
     let short = first_nonzero(shorts);
     let named = first_nonzero(lengths);
     let i = if short < n { short } else { named };
     if n <= i {
-        return Name {
-            place: 0,
-            length: 0,
-        };
+        return no_link();
     }
-    Name {
-        place: places[i] as usize,
-        length: lengths[i] as usize,
+    Link {
+        place: places[i],
+        length: lengths[i],
+        short: shorts[i],
     }
 }

@@ -16,7 +16,6 @@ use Rattle.usn_record.specs.declared.Fields.{Fields}
 use Rattle.usn_record.specs.Version.{versionsIn, versionIn}
 use Rattle.usn_record.specs.Layout.{nameOffset, recordLength, layout}
 use Rattle.file_record.specs.declared.FileRecord.{FileRecord}
-use Rattle.file_links.specs.Links.{linksOf, goodTable, chosenLink, nameOf}
 
 -- an input shorter than 4 bytes is ignored, and the version is 2; else Min and Max
 abbrev pub fileVersions : List ℕ → Option Status
@@ -51,8 +50,7 @@ unfoldable pub fileAnswer : Version → FileRecord → ℕ → List ℕ → ℕ 
 fileAnswer v f parent name room =
     guard (unless (leb (recordLength v (length name)) room) BufferTooSmall) (give Success (layout v (fileFields f parent) name))
 
--- the reply of the whole control, with `room` bytes of output
-unfoldable pub fileReply : Volume → FileRecord → ℕ → List ℕ → List ℕ → List ℕ → List ℕ → List ℕ → ℕ → Reply
-fileReply v f parent pool places lengths shorts input room =
-    guard (fileCheck v f (goodTable pool places lengths shorts) input room)
-    (fileAnswer (fileVersion input) f parent (nameOf pool (chosenLink (linksOf places lengths shorts))) room)
+-- the reply of the whole control, with `room` bytes of output: `table` says whether the table of links is right, and `name` is that
+-- of the chosen link
+unfoldable pub fileReply : Volume → FileRecord → ℕ → Bool → List ℕ → List ℕ → ℕ → Reply
+fileReply v f parent table name input room = guard (fileCheck v f table input room) (fileAnswer (fileVersion input) f parent name room)

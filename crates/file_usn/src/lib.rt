@@ -5,10 +5,12 @@ ghost use Prim.Native.Nat.{ℕ, _<_, _^_};
 ghost use lib.ListN.{length};
 ghost use Rattle.status.specs.Reply.{Replied};
 ghost use Rattle.usn_record.specs.Version.{chosen};
-ghost use Rattle.file_links.specs.Links.{linksOf, goodTable, chosenLink, nameOf};
+ghost use Rattle.file_links.specs.Links.{nameAt, goodLink, chosenLink, linksOf, goodTable};
 ghost use Rattle.file_usn.specs.FileUsn.{fileVersion, fileCheck, fileFields, fileAnswer, fileReply};
-use file_links::choose_name;
+use file_links::Link;
+use file_links::choose_link;
 use file_links::good_table;
+use file_links::no_link;
 use file_record::FileRecord;
 use record_writer::write_record;
 use status::Answer;
@@ -61,23 +63,35 @@ fn fields_of(f: FileRecord, parent: u64) -> Fields
     }
 }
 
-// Writes the record of a file whose table of links is right, in version v.
-fn write_file(
-    v: Version,
-    fields: Fields,
+// Writes the record of a file, with the name of a good link, in version v.
+fn write_file(v: Version, fields: Fields, pool: &[u8], link: Link, output: &mut [u8]) -> Answer
+    requires { ⌜ (goodLink (now pool) link ≡ true) × (fields .usn < 2 ^ 63) ⌝ }
+    ensures { λ r. ⌜ ((f : FileRecord) (p : ℕ) → fields ≡ fileFields f p → Replied (fileAnswer v f p (nameAt (now (pool .entry)) link) (length (now (output .entry)))) r (now (output .entry)) (now (output .exit))) ⌝ }
+{
+    let from = link.place as usize;
+    let to = from + link.length as usize;
+    write_record(output, v, fields, &pool[from..to])
+}
+
+// Reads a file's USN data, once its table of links is judged and the link whose name stands for it is chosen.
+pub fn read_chosen(
+    v: Volume,
+    f: FileRecord,
+    parent: u64,
     pool: &[u8],
-    places: &[u32],
-    lengths: &[u32],
-    shorts: &[u32],
+    table: bool,
+    link: Link,
+    input: &[u8],
     output: &mut [u8],
 ) -> Answer
-    requires { ⌜ (goodTable (now pool) (now places) (now lengths) (now shorts) ≡ true) × (fields .usn < 2 ^ 63) ⌝ }
-    ensures { λ r. ⌜ ((f : FileRecord) (p : ℕ) → fields ≡ fileFields f p → Replied (fileAnswer v f p (nameOf (now (pool .entry)) (chosenLink (linksOf (now (places .entry)) (now (lengths .entry)) (now (shorts .entry))))) (length (now (output .entry)))) r (now (output .entry)) (now (output .exit))) ⌝ }
+    requires { ⌜ (table ≡ true → goodLink (now pool) link ≡ true) ⌝ }
+    ensures { λ r. ⌜ Replied (fileReply v f parent table (nameAt (now (pool .entry)) link) (now (input .entry)) (length (now (output .entry)))) r (now (output .entry)) (now (output .exit)) ⌝ }
 {
-    let name = choose_name(pool, places, lengths, shorts);
-    let from = name.place;
-    let to = from + name.length;
-    write_record(output, v, fields, &pool[from..to])
+    let choice = judge_file(v, f, table, input, output.len());
+    match choice {
+        Choice::Refuse(x) => status::refused(x),
+        Choice::Use(version) => write_file(version, fields_of(f, parent), pool, link, output),
+    }
 }
 
 // Reads a file's USN data. The parent is that of the open's own link; the links are lent as the places and lengths of their names
@@ -93,20 +107,11 @@ pub fn read_file_usn(
     input: &[u8],
     output: &mut [u8],
 ) -> Answer
-    ensures { λ r. ⌜ Replied (fileReply v f parent (now (pool .entry)) (now (places .entry)) (now (lengths .entry)) (now (shorts .entry)) (now (input .entry)) (length (now (output .entry)))) r (now (output .entry)) (now (output .exit)) ⌝ }
+    ensures { λ r. ⌜ Replied (fileReply v f parent (goodTable (now (pool .entry)) (now (places .entry)) (now (lengths .entry)) (now (shorts .entry))) (nameAt (now (pool .entry)) (chosenLink (linksOf (now (places .entry)) (now (lengths .entry)) (now (shorts .entry))))) (now (input .entry)) (length (now (output .entry)))) r (now (output .entry)) (now (output .exit)) ⌝ }
 {
-    let table = good_table(pool, places, lengths, shorts);
-    let choice = judge_file(v, f, table, input, output.len());
-    match choice {
-        Choice::Refuse(x) => status::refused(x),
-        Choice::Use(version) => write_file(
-            version,
-            fields_of(f, parent),
-            pool,
-            places,
-            lengths,
-            shorts,
-            output,
-        ),
+    if !good_table(pool, places, lengths, shorts) {
+        return read_chosen(v, f, parent, pool, false, no_link(), input, output);
     }
+    let link = choose_link(places, lengths, shorts);
+    read_chosen(v, f, parent, pool, true, link, input, output)
 }

@@ -7,13 +7,19 @@ use Rattle.file_links.proofs.Tables.{link-past, link-inside, part-empty
 use Rattle.file_links.proofs.good_link.Statement.{statement}
 use Rattle.file_links.proofs.good_link.Tie as tie
 
+cast-from : tie.Need-cast-from
+cast-from c = omega arith
+
+cast-to : tie.Need-cast-to
+cast-to c = omega arith
+
 add-to : tie.Need-add-to
 add-to c = omega arith
 
 returns : tie.Need-returns
 returns c =
-    let a = c .before .before .args in
-    link-past (a .pool .now) (record { place = a .place; length = a .n; short = 0 }) (omega arith)
+    let a = c .before .before .before .before .args in
+    link-past (a .pool .now) (a .l) (omega arith)
 
 sub-good-name : tie.Need-sub-good-name
 sub-good-name c = omega arith
@@ -39,13 +45,16 @@ good-name-requires c κs = omega arith
 returns-2 : tie.Need-returns-2
 returns-2 c =
     let e = c .before .before .before in
-    let a = e .before .before .args in
-    link-inside (a .pool .now) (a .place) (a .n) (a .place + a .n - a .place) _ (c .good-name .result) (e .if1 .left) (omega arith) (part-empty (a .place + a .n) (drop (a .place + a .n) (a .pool .now))) (c .good-name .ensures)
+    let a = e .before .before .before .before .args in
+    let to = a .l .place + a .l .length in
+    link-inside (a .pool .now) (a .l) (to - a .l .place) _ (c .good-name .result) (e .if1 .left) (omega arith) (part-empty to (drop to (a .pool .now))) (c .good-name .ensures)
 
 pub good-link-spec : {M : Type 1} → statement M
 good-link-spec =
     tie.close
     (tie.spec
+    cast-from
+    cast-to
     add-to
     returns
     sub-good-name

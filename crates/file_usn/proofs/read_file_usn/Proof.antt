@@ -1,78 +1,88 @@
--- `read_file_usn` meets its contract: the refusal of the checks, or the record behind them.
+-- `read_file_usn` meets its contract: with a bad table the name does not count, and with a good one the chosen link is good.
 -- Assumes nothing.
-use mathlib.Core.Path.{sym, subst, _∙_}
-use Prim.Native.Nat.{_^_, _<_}
+use mathlib.Core.Path.{_≡_, sym, subst, _∙_}
+use mathlib.Core.Bool.{true}
 use native.Mathlib.Omega.{arith}
-use lib.ListN.{length}
-use Rattle.usn_record.specs.declared.Fields.{Fields}
-use Rattle.file_usn.proofs.Writing.{file-refused, file-right, file-written}
+use borrow.Author.Tests.{not-false}
+use Rattle.file_links.specs.declared.Link.{Link}
+use Rattle.file_links.specs.Links.{nameAt, goodLink, goodTable, linksOf, chosenLink}
+use Rattle.file_links.proofs.Tables.{table-told}
+use Rattle.file_links.proofs.Choosing.{no-link-good, chosen-good}
+use Rattle.file_usn.proofs.Writing.{table-bad, table-good}
 use Rattle.file_usn.proofs.read_file_usn.Statement.{statement}
 use Rattle.file_usn.proofs.read_file_usn.Tie as tie
 
 good-table-requires : tie.Need-good-table-requires
 good-table-requires c κs = omega arith
 
-judge-file-requires : tie.Need-judge-file-requires
-judge-file-requires c κs = omega arith
+no-link-requires : tie.Need-no-link-requires
+no-link-requires c κs = omega arith
 
-enum-known-choice : tie.Need-enum-known-choice
-enum-known-choice c = omega arith
-
-refused-requires : tie.Need-refused-requires
-refused-requires c κs = omega arith
-
-enum-known-choice-2 : tie.Need-enum-known-choice-2
-enum-known-choice-2 c = omega arith
-
-fields-of-requires : tie.Need-fields-of-requires
-fields-of-requires c κs = omega arith
-
-write-file-requires : tie.Need-write-file-requires
-write-file-requires c κs =
-    let q = c .before in
-    let m = q .before .before in
-    let j = m .before .before in
-    let g = j .before in
-    let a = g .before .before .before .before .before .before .before .args in
-    let k = file-right (a .v) (a .f) (a .pool .now) (a .places .now) (a .lengths .now) (a .shorts .now) (a .input .now) (length (a .output .now)) (g .good-table .result)
-    (m .choice2 .given .0 .0) (g .good-table .ensures) (sym (m .choice2 .given .1) ∙ j .judge-file .ensures) in
-    (k .0, subst (λ (x : Fields). x .usn < 2 ^ 63) (sym (q .fields-of .ensures)) (k .1))
-
-returns : tie.Need-returns
-returns c =
-    let m = c .before .before in
-    let j = m .before .before in
-    let g = j .before in
-    let a = g .before .before .before .before .before .before .before .args in
-    file-refused (a .v) (a .f) (a .parent) (a .pool .now) (a .places .now) (a .lengths .now) (a .shorts .now) (a .input .now) (a .output .now) (g .good-table .result) (g .good-table .ensures)
-    (c .refused .result) (m .choice .given .0 .0) (sym (m .choice .given .1) ∙ j .judge-file .ensures) (c .refused .ensures)
+read-chosen-requires : tie.Need-read-chosen-requires
+read-chosen-requires c κs =
+    let n = c .before in
+    let a = n .before .before .before .before .before .before .before .before .before .args in
+    λ e. subst (λ (l : Link). goodLink (a .pool .now) l ≡ true) (sym (n .no-link .ensures)) (no-link-good (a .pool .now))
 
 same-length : tie.Need-same-length
 same-length c = omega arith
 
+returns : tie.Need-returns
+returns c =
+    let r = c .before .before in
+    let n = r .before .before in
+    let t = n .before in
+    let g = t .before in
+    let a = g .before .before .before .before .before .before .before .args in
+    let pool = a .pool .now in
+    table-bad (a .v) (a .f) (a .parent) (a .input .now) (a .output .now) (r .read-chosen .result) (goodTable pool (a .places .now) (a .lengths .now) (a .shorts .now))
+    (g .good-table .result) (g .good-table .ensures) (r .read-chosen .last .1 .1 .1 .1 .1 .1 .1 .0) (nameAt pool (n .no-link .result))
+    (nameAt pool (chosenLink (linksOf (a .places .now) (a .lengths .now) (a .shorts .now)))) (t .if1 .taken) (r .read-chosen .ensures)
+
+-- behind the test the table is right
+right : (c : tie.Else1) → let a = c .before .before .before .before .before .before .before .before .args in
+    goodTable (a .pool .now) (a .places .now) (a .lengths .now) (a .shorts .now) ≡ true
+right c = let g = c .before in sym (g .good-table .ensures) ∙ not-false (g .good-table .result) (c .if1 .left)
+
+choose-link-requires : tie.Need-choose-link-requires
+choose-link-requires c κs =
+    let a = c .before .before .before .before .before .before .before .before .args in
+    let t = table-told (a .pool .now) (a .places .now) (a .lengths .now) (a .shorts .now) (right c) in
+    (t .0, t .1)
+
+read-chosen-requires-2 : tie.Need-read-chosen-requires-2
+read-chosen-requires-2 c κs =
+    let x = c .before in
+    let a = x .before .before .before .before .before .before .before .before .before .args in
+    let t = table-told (a .pool .now) (a .places .now) (a .lengths .now) (a .shorts .now) (right (x .before)) in
+    let ls = linksOf (a .places .now) (a .lengths .now) (a .shorts .now) in
+    λ e. subst (λ (l : Link). goodLink (a .pool .now) l ≡ true) (sym (x .choose-link .ensures)) (chosen-good (a .pool .now) ls (t .2))
+
+same-length-2 : tie.Need-same-length-2
+same-length-2 c = omega arith
+
 returns-2 : tie.Need-returns-2
 returns-2 c =
     let r = c .before .before in
-    let q = r .before .before in
-    let m = q .before .before in
-    let j = m .before .before in
-    let g = j .before in
+    let x = r .before .before in
+    let t = x .before in
+    let g = t .before in
     let a = g .before .before .before .before .before .before .before .args in
-    file-written (a .v) (a .f) (a .parent) (a .pool .now) (a .places .now) (a .lengths .now) (a .shorts .now) (a .input .now) (a .output .now) (g .good-table .result) (g .good-table .ensures)
-    (r .write-file .result) (m .choice2 .given .0 .0) (r .write-file .last .1 .1 .1 .1 .1 .1 .0) (sym (m .choice2 .given .1) ∙ j .judge-file .ensures)
-    (r .write-file .ensures (a .f) (a .parent) (q .fields-of .ensures))
+    let pool = a .pool .now in
+    table-good (a .v) (a .f) (a .parent) (a .input .now) (a .output .now) (r .read-chosen2 .result) (goodTable pool (a .places .now) (a .lengths .now) (a .shorts .now))
+    (g .good-table .result) (g .good-table .ensures) (r .read-chosen2 .last .1 .1 .1 .1 .1 .1 .1 .0) pool (x .choose-link .result)
+    (chosenLink (linksOf (a .places .now) (a .lengths .now) (a .shorts .now))) (t .if1 .left) (x .choose-link .ensures) (r .read-chosen2 .ensures)
 
 pub read-file-usn-spec : {M : Type 1} → statement M
 read-file-usn-spec =
     tie.close
     (tie.spec
     good-table-requires
-    judge-file-requires
-    enum-known-choice
-    refused-requires
-    enum-known-choice-2
-    fields-of-requires
-    write-file-requires
-    returns
+    no-link-requires
+    read-chosen-requires
     same-length
+    returns
+    choose-link-requires
+    read-chosen-requires-2
+    same-length-2
     returns-2)

@@ -1,14 +1,16 @@
--- `write_file` meets its contract: the chosen name is a good one, and the record with it is written.
+-- `write_file` meets its contract: the name of a good link lies inside the pool and is a good one, and the record with it is written.
 -- Assumes nothing.
 use native.Mathlib.Omega.{arith}
-use Rattle.file_links.specs.Links.{linksOf, chosenLink, nameOf}
-use Rattle.file_links.proofs.Choosing.{chosen-good}
+use Rattle.file_links.proofs.Tables.{link-fits}
 use Rattle.file_usn.proofs.Writing.{write-replied}
 use Rattle.file_usn.proofs.write_file.Statement.{statement}
 use Rattle.file_usn.proofs.write_file.Tie as tie
 
-choose-name-requires : tie.Need-choose-name-requires
-choose-name-requires c κs = c .before .before .before .before .before .pre .0
+cast-from : tie.Need-cast-from
+cast-from c = omega arith
+
+cast-to : tie.Need-cast-to
+cast-to c = omega arith
 
 add-to : tie.Need-add-to
 add-to c = omega arith
@@ -20,7 +22,10 @@ part-write-record-start : tie.Need-part-write-record-start
 part-write-record-start c = omega arith
 
 part-write-record-end : tie.Need-part-write-record-end
-part-write-record-end c = omega arith
+part-write-record-end c =
+    let s = c .before .before .before .before .before in
+    let a = s .args in
+    omega (arith, link-fits (a .pool .now) (a .link) (s .pre .0))
 
 write-record-requires : tie.Need-write-record-requires
 write-record-requires c κs = omega arith
@@ -31,18 +36,16 @@ same-length c = omega arith
 returns : tie.Need-returns
 returns c =
     let r = c .before .before in
-    let x = r .before .before .before .before in
-    let s = x .before .before .before .before .before .before in
+    let s = r .before .before .before .before .before .before .before in
     let a = s .args in
-    write-replied (a .v) (a .fields) (a .pool .now) (nameOf (a .pool .now) (chosenLink (linksOf (a .places .now) (a .lengths .now) (a .shorts .now))))
-    (x .choose-name .result .place) (x .choose-name .result .length) (a .output .now) (r .write-record .last .0) (r .write-record .result)
-    (chosen-good (a .pool .now) (a .places .now) (a .lengths .now) (a .shorts .now) (s .pre .0)) (s .pre .1) (x .choose-name .ensures .1) (r .write-record .ensures)
+    write-replied (a .v) (a .fields) (a .pool .now) (a .link) (a .output .now) (r .write-record .last .0) (r .write-record .result) (s .pre .0) (s .pre .1) (r .write-record .ensures)
 
 pub write-file-spec : {M : Type 1} → statement M
 write-file-spec =
     tie.close
     (tie.spec
-    choose-name-requires
+    cast-from
+    cast-to
     add-to
     sub-write-record
     part-write-record-start

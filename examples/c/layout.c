@@ -1,0 +1,65 @@
+/* The layouts that C and the library share, checked when this file is compiled. */
+#include "lanhduxe.h"
+
+#define SIZE(type, n) _Static_assert(sizeof(type) == (n), "size of " #type)
+#define AT(type, field, n) _Static_assert(offsetof(type, field) == (n), "place of " #field " in " #type)
+
+SIZE(usn_volume, 56);
+AT(usn_volume, usn, 0);
+AT(usn_volume, regions, 4);
+AT(usn_volume, reparse, 8);
+AT(usn_volume, points, 12);
+AT(usn_volume, journal, 16);
+AT(usn_volume, state, 20);
+AT(usn_volume, id, 24);
+AT(usn_volume, first, 32);
+AT(usn_volume, last, 40);
+AT(usn_volume, capacity, 48);
+
+SIZE(usn_change, 40);
+AT(usn_change, file, 0);
+AT(usn_change, parent, 8);
+AT(usn_change, time, 16);
+AT(usn_change, reason, 24);
+AT(usn_change, source, 28);
+AT(usn_change, security, 32);
+AT(usn_change, attributes, 36);
+
+SIZE(usn_file, 56);
+AT(usn_file, id, 0);
+AT(usn_file, usn, 8);
+AT(usn_file, eof, 16);
+AT(usn_file, valid, 24);
+AT(usn_file, attributes, 32);
+AT(usn_file, tag, 36);
+AT(usn_file, guid, 40);
+
+SIZE(usn_link, 12);
+AT(usn_link, place, 0);
+AT(usn_link, length, 4);
+AT(usn_link, short_length, 8);
+
+SIZE(usn_answer, 16);
+AT(usn_answer, status, 0);
+AT(usn_answer, count, 8);
+
+SIZE(usn_record, 80);
+AT(usn_record, status, 0);
+AT(usn_record, version, 4);
+AT(usn_record, file, 8);
+AT(usn_record, parent, 16);
+AT(usn_record, usn, 24);
+AT(usn_record, time, 32);
+AT(usn_record, reason, 40);
+AT(usn_record, source, 44);
+AT(usn_record, security, 48);
+AT(usn_record, attributes, 52);
+AT(usn_record, name, 56);
+AT(usn_record, length, 64);
+AT(usn_record, next, 72);
+
+SIZE(usn_walk, 32);
+AT(usn_walk, status, 0);
+AT(usn_walk, position, 8);
+AT(usn_walk, count, 16);
+AT(usn_walk, bad, 24);

@@ -1,0 +1,433 @@
+//! Time of each call, library against model, on the same input in one run: `cargo bench`.
+//!
+//! Both sides are built for release and called through the same kind of closure. A case is measured in rounds; each round times
+//! the library and then the model over the same number of calls, and the table shows the median round of each side and the
+//! median of the rounds' ratios. Rings, inputs and outputs are prepared before a round; no buffer is cleared between calls.
+
+use std::hint::black_box;
+use std::time::{Duration, Instant};
+
+const ID: u64 = 7;
+const ROUNDS: usize = 21;
+const ROUND: Duration = Duration::from_millis(12);
+const CLOSED: u32 = 0x8000_0000;
+
+/// The medians of nanoseconds a call, of library and model, and of the rounds' ratios.
+struct Timed {
+    library: f64,
+    model: f64,
+    ratio: f64,
+}
+
+fn nanoseconds(calls: u32, mut call: impl FnMut()) -> f64 {
+    let start = Instant::now();
+    for _ in 0..calls {
+        call();
+    }
+    start.elapsed().as_nanos() as f64 / f64::from(calls)
+}
+
+fn median(mut xs: Vec<f64>) -> f64 {
+    xs.sort_by(f64::total_cmp);
+    xs[xs.len() / 2]
+}
+
+fn measure(mut library: impl FnMut(), mut model: impl FnMut()) -> Timed {
+    // as many calls as fill a round, and a warm cache for both sides
+    let once = nanoseconds(16, &mut model)
+        .max(nanoseconds(16, &mut library))
+        .max(1.0);
+    let calls = (ROUND.as_nanos() as f64 / once).clamp(16.0, 4e6) as u32;
+    let (mut a, mut b, mut ratios) = (Vec::new(), Vec::new(), Vec::new());
+    for round in 0..ROUNDS {
+        // either side goes first in turn
+        let (x, y) = if round % 2 == 0 {
+            let x = nanoseconds(calls, &mut library);
+            (x, nanoseconds(calls, &mut model))
+        } else {
+            let y = nanoseconds(calls, &mut model);
+            (nanoseconds(calls, &mut library), y)
+        };
+        a.push(x);
+        b.push(y);
+        ratios.push(x / y);
+    }
+    Timed {
+        library: median(a),
+        model: median(b),
+        ratio: median(ratios),
+    }
+}
+
+fn row(name: &str, t: &Timed) {
+    println!(
+        "| {name} | {:.0} | {:.0} | {:.2} |",
+        t.library, t.model, t.ratio
+    );
+}
+
+fn heading(first: &str) {
+    println!("\n| {first} | library, ns | model, ns | ratio |\n|---|---:|---:|---:|");
+}
+
+/// The same journal on both sides.
+struct Pair {
+    library: lanhduxe::Volume,
+    model: model::Volume,
+    rings: [Vec<u8>; 2],
+    usn: u64,
+}
+
+const CHANGE: (u64, u64, u64, u32, u32, u32, u32) =
+    (41, 5, 132_539_328_000_000_000, 0x100, 0, 0, 0x20);
+
+fn change() -> lanhduxe::Change {
+    let (file, parent, time, reason, source, security, attributes) = CHANGE;
+    lanhduxe::Change {
+        file,
+        parent,
+        time,
+        reason,
+        source,
+        security,
+        attributes,
+    }
+}
+
+fn model_change() -> model::Change {
+    let (file, parent, time, reason, source, security, attributes) = CHANGE;
+    model::Change {
+        file,
+        parent,
+        time,
+        reason,
+        source,
+        security,
+        attributes,
+    }
+}
+
+/// A ring of `capacity` bytes that has gone round more than once, full of records with names of `size` bytes.
+fn full(capacity: usize, size: usize) -> Pair {
+    let mut p = Pair {
+        library: lanhduxe::Volume {
+            journal: 1,
+            capacity: capacity as u64,
+            ..Default::default()
+        },
+        model: model::Volume {
+            journal: 1,
+            capacity: capacity as u64,
+            ..Default::default()
+        },
+        rings: [vec![0; capacity], vec![0; capacity]],
+        usn: 0,
+    };
+    assert_eq!(p.library.create(ID), lanhduxe::Status::Success);
+    assert_eq!(model::create(&mut p.model, ID), model::status::SUCCESS);
+    let name = vec![0x61; size];
+    let posts = 5 * capacity / (2 * (76 + size)) + 2;
+    for _ in 0..posts {
+        post_both(&mut p, &name);
+    }
+    assert!(
+        p.rings[0] == p.rings[1]
+            && p.library.first == p.model.first
+            && p.library.last == p.model.last
+    );
+    p
+}
+
+fn post_both(p: &mut Pair, name: &[u8]) {
+    let [a, b] = &mut p.rings;
+    assert_eq!(
+        p.library.post(a, &change(), name, &mut p.usn),
+        lanhduxe::Status::Success
+    );
+    assert_eq!(
+        model::post(&mut p.model, b, &model_change(), name, &mut p.usn),
+        model::status::SUCCESS
+    );
+}
+
+fn posts(capacity: usize, size: usize) -> Timed {
+    let mut p = full(capacity, size);
+    let name = vec![0x61; size];
+    let [a, b] = &mut p.rings;
+    let (c, d) = (change(), model_change());
+    let (mut u, mut w) = (0, 0);
+    let (v, m) = (&mut p.library, &mut p.model);
+    measure(
+        || {
+            black_box(v.post(black_box(a), black_box(&c), black_box(&name), &mut u));
+        },
+        || {
+            black_box(model::post(
+                m,
+                black_box(b),
+                black_box(&d),
+                black_box(&name),
+                &mut w,
+            ));
+        },
+    )
+}
+
+/// A read's input from the oldest kept record on.
+fn input(mask: u32, version: u16) -> [u8; 48] {
+    let mut s = [0; 48];
+    s[8..12].copy_from_slice(&mask.to_le_bytes());
+    s[32..40].copy_from_slice(&ID.to_le_bytes());
+    s[40..42].copy_from_slice(&version.to_le_bytes());
+    s[42..44].copy_from_slice(&version.to_le_bytes());
+    s
+}
+
+fn reads(p: &Pair, mask: u32, version: u16) -> Timed {
+    let s = input(mask, version);
+    let (mut a, mut b) = (vec![0; 65_536], vec![0; 65_536]);
+    let x = p.library.read_journal(&p.rings[0], &s, &mut a);
+    let y = model::read_journal(&p.model, &p.rings[1], &s, &mut b);
+    assert!((x.status.number(), x.count) == y && a == b && y.0 == model::status::SUCCESS);
+    measure(
+        || {
+            black_box(p.library.read_journal(
+                black_box(&p.rings[0]),
+                black_box(&s),
+                black_box(&mut a),
+            ));
+        },
+        || {
+            black_box(model::read_journal(
+                &p.model,
+                black_box(&p.rings[1]),
+                black_box(&s),
+                black_box(&mut b),
+            ));
+        },
+    )
+}
+
+fn walks(p: &Pair, version: u16) -> Timed {
+    let mut reply = vec![0; 65_536];
+    let x = p
+        .library
+        .read_journal(&p.rings[0], &input(!0, version), &mut reply);
+    let reply = &reply[..x.count];
+    let y = lanhduxe::walk_reply(reply).expect("a whole reply");
+    assert_eq!(model::walk_reply(reply), Ok((y.position, y.count)));
+    measure(
+        || {
+            let _ = black_box(lanhduxe::walk_reply(black_box(reply)));
+        },
+        || {
+            let _ = black_box(model::walk_reply(black_box(reply)));
+        },
+    )
+}
+
+struct Disk {
+    library: lanhduxe::Volume,
+    model: model::Volume,
+    file: lanhduxe::FileRecord,
+    same: model::File,
+}
+
+fn disk() -> Disk {
+    let guid = [9; 16];
+    Disk {
+        library: lanhduxe::Volume {
+            usn: 1,
+            regions: 1,
+            reparse: 1,
+            points: 1,
+            ..Default::default()
+        },
+        model: model::Volume {
+            usn: 1,
+            regions: 1,
+            reparse: 1,
+            points: 1,
+            ..Default::default()
+        },
+        file: lanhduxe::FileRecord {
+            id: 41,
+            usn: 1024,
+            eof: 100,
+            valid: 60,
+            attributes: 32,
+            tag: 0xA000_000C,
+            guid,
+        },
+        same: model::File {
+            id: 41,
+            usn: 1024,
+            eof: 100,
+            valid: 60,
+            attributes: 32,
+            tag: 0xA000_000C,
+            guid,
+        },
+    }
+}
+
+fn file_reads() -> Timed {
+    let d = disk();
+    let pool = [0x61; 64];
+    let links = [
+        lanhduxe::Link {
+            place: 0,
+            length: 24,
+            short: 0,
+        },
+        lanhduxe::Link {
+            place: 24,
+            length: 40,
+            short: 12,
+        },
+    ];
+    let same = [
+        model::Link {
+            place: 0,
+            length: 24,
+            short: 0,
+        },
+        model::Link {
+            place: 24,
+            length: 40,
+            short: 12,
+        },
+    ];
+    let input = [2, 0, 3, 0];
+    let (mut a, mut b) = ([0; 600], [0; 600]);
+    let x = d
+        .library
+        .read_file(&d.file, 5, &pool, &links, &input, &mut a);
+    let y = model::read_file(&d.model, &d.same, 5, &pool, &same, &input, &mut b);
+    assert!((x.status.number(), x.count) == y && a == b && x.count == 120);
+    measure(
+        || {
+            black_box(d.library.read_file(
+                black_box(&d.file),
+                5,
+                black_box(&pool),
+                black_box(&links),
+                black_box(&input),
+                black_box(&mut a),
+            ));
+        },
+        || {
+            black_box(model::read_file(
+                &d.model,
+                black_box(&d.same),
+                5,
+                black_box(&pool),
+                black_box(&same),
+                black_box(&input),
+                black_box(&mut b),
+            ));
+        },
+    )
+}
+
+fn regions() -> Timed {
+    let d = disk();
+    let (mut a, mut b) = ([0; 64], [0; 64]);
+    let x = d.library.query_file_regions(&d.file, &[], &mut a);
+    let y = model::query_file_regions(&d.model, &d.same, &[], &mut b);
+    assert!((x.status.number(), x.count) == y && a == b && x.count == 64);
+    measure(
+        || {
+            black_box(
+                d.library
+                    .query_file_regions(black_box(&d.file), &[], black_box(&mut a)),
+            );
+        },
+        || {
+            black_box(model::query_file_regions(
+                &d.model,
+                black_box(&d.same),
+                &[],
+                black_box(&mut b),
+            ));
+        },
+    )
+}
+
+fn reparse_points() -> Timed {
+    let d = disk();
+    let data = vec![7; 16_376];
+    let (mut a, mut b) = (vec![0; 16_384], vec![0; 16_384]);
+    let x = d.library.get_reparse_point(&d.file, &data, &mut a);
+    let y = model::get_reparse_point(&d.model, &d.same, &data, &mut b);
+    assert!((x.status.number(), x.count) == y && a == b && x.count == 16_384);
+    measure(
+        || {
+            black_box(d.library.get_reparse_point(
+                black_box(&d.file),
+                black_box(&data),
+                black_box(&mut a),
+            ));
+        },
+        || {
+            black_box(model::get_reparse_point(
+                &d.model,
+                black_box(&d.same),
+                black_box(&data),
+                black_box(&mut b),
+            ));
+        },
+    )
+}
+
+fn main() {
+    heading("call");
+    let post = posts(65_536, 2);
+    row("post on a full ring of 64 KiB, name of 2 bytes", &post);
+    row(
+        "post on a full ring of 64 KiB, name of 510 bytes",
+        &posts(65_536, 510),
+    );
+    let (short, long) = (full(65_536, 2), full(65_536, 510));
+    for version in [2, 3] {
+        row(
+            &format!("read of a full ring into 64 KiB, names of 2 bytes, V{version}"),
+            &reads(&short, !0, version),
+        );
+        row(
+            &format!("read of a full ring into 64 KiB, names of 510 bytes, V{version}"),
+            &reads(&long, !0, version),
+        );
+    }
+    row(
+        "read that selects nothing, names of 2 bytes",
+        &reads(&short, CLOSED, 3),
+    );
+    row(
+        "read that selects nothing, names of 510 bytes",
+        &reads(&long, CLOSED, 3),
+    );
+    for version in [2, 3] {
+        row(
+            &format!("walk of a 64 KiB reply, names of 2 bytes, V{version}"),
+            &walks(&short, version),
+        );
+    }
+    row("file read, two links", &file_reads());
+    row("file regions, two regions", &regions());
+    row("reparse point of 16 KiB", &reparse_points());
+
+    heading("post on a full ring, name of 2 bytes, capacity");
+    let capacities = [1_024, 2_048, 4_096, 8_192, 16_384, 32_768, 65_536];
+    for c in capacities {
+        row(&c.to_string(), &posts(c, 2));
+    }
+    heading("read of a full ring in V3, names of 2 bytes, capacity");
+    for c in capacities {
+        row(&c.to_string(), &reads(&full(c, 2), !0, 3));
+    }
+    println!(
+        "\n30 posts a second on a full ring of 64 KiB take {:.4} % of a processor's time.",
+        30.0 * post.library / 1e7
+    );
+}

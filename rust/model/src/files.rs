@@ -1,0 +1,255 @@
+//! The three controls over a file record: USN data, regions, reparse point.
+
+use crate::bytes::{put_u16, put_u32, put_u64, u16_at, u32_at, u64_at};
+use crate::record::{write, Change, Version, LONGEST_NAME, MAX_USN};
+use crate::{answer, status, Volume};
+
+/// A file record.
+#[derive(Clone, Copy, Debug, Default, PartialEq, Eq)]
+pub struct File {
+    /// The file's id.
+    pub id: u64,
+    /// Usn of its last change.
+    pub usn: u64,
+    /// End of file.
+    pub eof: u64,
+    /// Valid data length, at most the end of file.
+    pub valid: u64,
+    /// File attributes.
+    pub attributes: u32,
+    /// Reparse tag; 0 means none.
+    pub tag: u32,
+    /// Reparse GUID, given for tags that are not Microsoft's.
+    pub guid: [u8; 16],
+}
+
+/// One entry of a file's link table.
+#[derive(Clone, Copy, Debug, Default, PartialEq, Eq)]
+pub struct Link {
+    /// Place of the name in the name pool.
+    pub place: u32,
+    /// The name's length in bytes.
+    pub length: u32,
+    /// The short name's length; only 0 or not matters.
+    pub short: u32,
+}
+
+impl Link {
+    /// The link's name, or `None` if the entry is wrong.
+    fn name(self, pool: &[u8]) -> Option<&[u8]> {
+        let length = self.length as usize;
+        if length > LONGEST_NAME || !length.is_multiple_of(2) {
+            return None;
+        }
+        pool.get(self.place as usize..)?.get(..length)
+    }
+}
+
+/// Largest file offset.
+const MAX_OFFSET: u64 = i64::MAX as u64;
+/// Usage flag of valid cached data.
+const VALID_CACHED_DATA: u32 = 1;
+/// Length of the region reply's header.
+const REGIONS_HEADER: usize = 16;
+/// Length of one region.
+const REGION: usize = 24;
+
+/// Reads a file's USN data as one record. `parent` is the folder of the link
+/// the file was opened by.
+pub fn read_file(
+    volume: &Volume,
+    file: &File,
+    parent: u64,
+    pool: &[u8],
+    links: &[Link],
+    input: &[u8],
+    output: &mut [u8],
+) -> (u32, usize) {
+    answer(usn_data(volume, file, parent, pool, links, input, output))
+}
+
+/// Judges a file read in the listed order and carries it out.
+fn usn_data(
+    volume: &Volume,
+    file: &File,
+    parent: u64,
+    pool: &[u8],
+    links: &[Link],
+    input: &[u8],
+    output: &mut [u8],
+) -> Result<usize, u32> {
+    if volume.usn == 0 {
+        return Err(status::INVALID_DEVICE_REQUEST);
+    }
+    if file.usn > MAX_USN {
+        return Err(status::FILE_CORRUPT_ERROR);
+    }
+    let name = choose_name(pool, links).ok_or(status::FILE_CORRUPT_ERROR)?;
+    let version = if input.len() < 4 {
+        Version::V2
+    } else {
+        Version::choose(u16_at(input, 0), u16_at(input, 2)).ok_or(status::INVALID_PARAMETER)?
+    };
+    // The structure's own size is that of a record with a name of two bytes,
+    // and it is asked for even if the name is empty.
+    let length = version.length(name.len());
+    if output.len() < version.length(2).max(length) {
+        return Err(status::BUFFER_TOO_SMALL);
+    }
+    let change = Change {
+        file: file.id,
+        parent,
+        attributes: file.attributes,
+        ..Change::default()
+    };
+    write(&mut output[..length], version, &change, file.usn, name);
+    Ok(length)
+}
+
+/// The name of the first link with a short name; with no such link the first
+/// name that is not empty, else the empty name. `None` if any entry is wrong.
+fn choose_name<'a>(pool: &'a [u8], links: &[Link]) -> Option<&'a [u8]> {
+    let mut chosen: &[u8] = &[];
+    let mut settled = false;
+    for link in links {
+        let name = link.name(pool)?;
+        if settled {
+            continue;
+        }
+        if link.short != 0 {
+            chosen = name;
+            settled = true;
+        } else if chosen.is_empty() {
+            chosen = name;
+        }
+    }
+    Some(chosen)
+}
+
+/// Tells which parts of a range of the file hold valid data.
+pub fn query_file_regions(
+    volume: &Volume,
+    file: &File,
+    input: &[u8],
+    output: &mut [u8],
+) -> (u32, usize) {
+    answer(regions(volume, file, input, output))
+}
+
+/// Judges a region query in the listed order and carries it out.
+fn regions(volume: &Volume, file: &File, input: &[u8], output: &mut [u8]) -> Result<usize, u32> {
+    if volume.regions == 0 {
+        return Err(status::INVALID_DEVICE_REQUEST);
+    }
+    let File { eof, valid, .. } = *file;
+    if valid > eof || eof > MAX_OFFSET {
+        return Err(status::FILE_CORRUPT_ERROR);
+    }
+    let (offset, length, usage) = match input.len() {
+        0 => (0, MAX_OFFSET, VALID_CACHED_DATA),
+        1..=23 => return Err(status::BUFFER_TOO_SMALL),
+        _ => (u64_at(input, 0), u64_at(input, 8), u32_at(input, 16)),
+    };
+    if length == 0 || length > MAX_OFFSET {
+        return Err(status::INVALID_PARAMETER);
+    }
+    if offset
+        .checked_add(length)
+        .is_none_or(|end| end > MAX_OFFSET)
+    {
+        return Err(status::INVALID_PARAMETER);
+    }
+    if usage & VALID_CACHED_DATA == 0 {
+        return Err(status::INVALID_PARAMETER);
+    }
+    if output.len() < REGIONS_HEADER + REGION {
+        return Err(status::BUFFER_TOO_SMALL);
+    }
+    if offset > eof || (offset == eof && eof > 0) {
+        return Ok(0);
+    }
+    if offset >= valid {
+        put_region(output, 0, offset, length.min(eof - offset), 0);
+        return Ok(end_regions(output, 1));
+    }
+    let first = length.min(valid - offset);
+    let second = valid < eof && first < length;
+    if second && output.len() < REGIONS_HEADER + 2 * REGION {
+        return Err(status::BUFFER_OVERFLOW);
+    }
+    put_region(output, 0, offset, first, usage);
+    if !second {
+        return Ok(end_regions(output, 1));
+    }
+    put_region(output, 1, valid, (length - first).min(eof - valid), 0);
+    Ok(end_regions(output, 2))
+}
+
+/// Writes region number `index` of the reply.
+fn put_region(output: &mut [u8], index: usize, offset: u64, length: u64, usage: u32) {
+    let at = REGIONS_HEADER + index * REGION;
+    let region = &mut output[at..at + REGION];
+    put_u64(region, 0, offset);
+    put_u64(region, 8, length);
+    put_u32(region, 16, usage);
+    put_u32(region, 20, 0);
+}
+
+/// Writes the header over `count` regions and gives the reply's length.
+fn end_regions(output: &mut [u8], count: usize) -> usize {
+    put_u32(output, 0, 0);
+    put_u32(output, 4, count as u32);
+    put_u32(output, 8, count as u32);
+    put_u32(output, 12, 0);
+    REGIONS_HEADER + count * REGION
+}
+
+/// Gives a file's reparse tag and as much of its reparse data as fits.
+pub fn get_reparse_point(
+    volume: &Volume,
+    file: &File,
+    data: &[u8],
+    output: &mut [u8],
+) -> (u32, usize) {
+    answer(reparse_point(volume, file, data, output))
+}
+
+/// Judges a reparse query in the listed order and carries it out.
+fn reparse_point(
+    volume: &Volume,
+    file: &File,
+    data: &[u8],
+    output: &mut [u8],
+) -> Result<usize, u32> {
+    if volume.reparse == 0 {
+        return Err(status::INVALID_DEVICE_REQUEST);
+    }
+    if volume.points == 0 {
+        return Err(status::VOLUME_NOT_UPGRADED);
+    }
+    let microsoft = file.tag & 0x8000_0000 != 0;
+    let (header, most) = match (file.tag, microsoft) {
+        (0, _) => (0, 0),
+        (_, true) => (8, 16_376),
+        (_, false) => (24, 16_360),
+    };
+    if data.len() > most {
+        return Err(status::FILE_CORRUPT_ERROR);
+    }
+    if file.tag == 0 {
+        return Err(status::NOT_A_REPARSE_POINT);
+    }
+    if output.len() < header {
+        return Err(status::BUFFER_TOO_SMALL);
+    }
+    put_u32(output, 0, file.tag);
+    put_u16(output, 4, data.len() as u16);
+    put_u16(output, 6, 0);
+    if !microsoft {
+        output[8..24].copy_from_slice(&file.guid);
+    }
+    let fitting = data.len().min(output.len() - header);
+    let count = header + fitting;
+    output[header..count].copy_from_slice(&data[..fitting]);
+    Ok(count)
+}

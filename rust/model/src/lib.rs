@@ -1,0 +1,55 @@
+//! Reference implementation of a file server's USN change journal and of four
+//! file controls, over buffers lent by the caller.
+//!
+//! Every call ends with one of the numbers in [`status`]. Any answer other than
+//! `SUCCESS` reports 0 bytes and changes nothing. No call allocates.
+
+#![forbid(unsafe_code)]
+#![warn(missing_docs)]
+
+mod bytes;
+mod files;
+mod journal;
+mod listing;
+mod record;
+pub mod status;
+
+pub use files::{get_reparse_point, query_file_regions, read_file, File, Link};
+pub use journal::{create, delete, finish, post, read_journal};
+pub use listing::{list_reply, walk_reply};
+pub use record::{read_record, Change, Record};
+
+/// The volume record: what the volume supports, and the state of its journal.
+///
+/// A support flag is "no" if 0 and "yes" otherwise.
+#[derive(Clone, Copy, Debug, Default, PartialEq, Eq)]
+pub struct Volume {
+    /// Reading a file's USN data is supported.
+    pub usn: u32,
+    /// Querying file regions is supported.
+    pub regions: u32,
+    /// The reparse point control is supported.
+    pub reparse: u32,
+    /// The volume has reparse points.
+    pub points: u32,
+    /// The change journal is supported.
+    pub journal: u32,
+    /// 1 while the journal is active, 2 while it is being deleted, else idle.
+    pub state: u32,
+    /// The journal's id, or the last one used.
+    pub id: u64,
+    /// Position of the oldest kept record.
+    pub first: u64,
+    /// Position behind the newest record (LastUsn).
+    pub last: u64,
+    /// Length of the ring in bytes.
+    pub capacity: u64,
+}
+
+/// Turns a control's result into the status and byte count it reports.
+fn answer(result: Result<usize, u32>) -> (u32, usize) {
+    match result {
+        Ok(count) => (status::SUCCESS, count),
+        Err(status) => (status, 0),
+    }
+}

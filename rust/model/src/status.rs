@@ -1,0 +1,26 @@
+//! The NTSTATUS numbers the calls answer with.
+
+/// The call was carried out.
+pub const SUCCESS: u32 = 0;
+/// The output has room for one region where two are due.
+pub const BUFFER_OVERFLOW: u32 = 0x8000_0005;
+/// An argument or a field of the input is wrong.
+pub const INVALID_PARAMETER: u32 = 0xC000_000D;
+/// The volume does not support the control.
+pub const INVALID_DEVICE_REQUEST: u32 = 0xC000_0010;
+/// A buffer is too short.
+pub const BUFFER_TOO_SMALL: u32 = 0xC000_0023;
+/// The journal has no room or no positions left for the record.
+pub const DISK_FULL: u32 = 0xC000_007F;
+/// A file record, the volume record or the ring is not sound.
+pub const FILE_CORRUPT_ERROR: u32 = 0xC000_0102;
+/// The file has no reparse point.
+pub const NOT_A_REPARSE_POINT: u32 = 0xC000_0275;
+/// The volume has no reparse points at all.
+pub const VOLUME_NOT_UPGRADED: u32 = 0xC000_029C;
+/// The journal is being deleted.
+pub const JOURNAL_DELETE_IN_PROGRESS: u32 = 0xC000_02B7;
+/// There is no active journal.
+pub const JOURNAL_NOT_ACTIVE: u32 = 0xC000_02B8;
+/// The position asked for lies before the oldest kept record.
+pub const JOURNAL_ENTRY_DELETED: u32 = 0xC000_02CF;

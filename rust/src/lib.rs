@@ -1,0 +1,716 @@
+//! Safe calls for four file controls and a change journal over lent memory.
+//!
+//! The library behind this crate allocates nothing and keeps nothing. The
+//! caller owns a [`Volume`] record, the journal's ring and every other buffer,
+//! and lends them for the length of one call.
+//!
+//! Each call gives one [`Status`]. A status other than [`Status::Success`] is a
+//! refusal: the count is zero, and no buffer and no record has changed. After a
+//! success the bytes of an output buffer past the count are as they were.
+//!
+//! Positions, sizes and times are 64-bit patterns in `u64`; where a layout has a
+//! signed number, a pattern of 2^63 or above is negative.
+//!
+//! # Example
+//!
+//! Create a journal, post one change, read it back and walk the reply:
+//!
+//! ```
+//! use lanhduxe::{walk_reply, Change, Status, Volume};
+//!
+//! let mut ring = vec![0; 1024];
+//! let mut volume = Volume { journal: 1, capacity: 1024, ..Volume::default() };
+//! assert_eq!(volume.create(7), Status::Success);
+//!
+//! let change = Change { file: 5, parent: 2, reason: 0x100, ..Change::default() };
+//! let mut usn = 0;
+//! assert_eq!(volume.post(&mut ring, &change, b"a\0", &mut usn), Status::Success);
+//! assert_eq!(usn, 80);
+//!
+//! let mut input = [0; 48]; // StartUsn 0: from the oldest record kept
+//! input[8..12].copy_from_slice(&u32::MAX.to_le_bytes()); // ReasonMask
+//! input[32..40].copy_from_slice(&7u64.to_le_bytes()); // the journal's id
+//! input[40..42].copy_from_slice(&2u16.to_le_bytes()); // lowest version
+//! input[42..44].copy_from_slice(&3u16.to_le_bytes()); // highest version
+//! let mut output = [0; 600];
+//! let answer = volume.read_journal(&ring, &input, &mut output);
+//! assert_eq!(answer.status, Status::Success);
+//!
+//! let walk = walk_reply(&output[..answer.count]).expect("a whole reply");
+//! assert_eq!((walk.position, walk.count), (80, 1));
+//! ```
+
+#![warn(missing_docs)]
+
+use core::fmt;
+use core::mem::{offset_of, size_of};
+use core::ops::Range;
+
+/// The library's C interface.
+mod c {
+    use super::{Change, FileRecord, Link, Volume};
+
+    /// `usn_answer`
+    #[repr(C)]
+    pub struct Answer {
+        pub status: u32,
+        pub count: u64,
+    }
+
+    /// `usn_walk`
+    #[repr(C)]
+    pub struct Walk {
+        pub status: u32,
+        pub position: u64,
+        pub count: u64,
+        pub bad: u64,
+    }
+
+    /// `usn_record`
+    #[repr(C)]
+    pub struct Record {
+        pub status: u32,
+        pub version: u32,
+        pub file: u64,
+        pub parent: u64,
+        pub usn: u64,
+        pub time: u64,
+        pub reason: u32,
+        pub source: u32,
+        pub security: u32,
+        pub attributes: u32,
+        pub name: u64,
+        pub length: u64,
+        pub next: u64,
+    }
+
+    extern "C" {
+        pub fn usn_create(volume: *mut Volume, id: u64) -> u32;
+        pub fn usn_delete(volume: *mut Volume, id: u64) -> u32;
+        pub fn usn_finish(volume: *mut Volume) -> u32;
+        pub fn usn_post(
+            volume: *mut Volume,
+            ring: *mut u8,
+            ring_len: usize,
+            change: Change,
+            name: *const u8,
+            name_len: usize,
+            usn: *mut u64,
+        ) -> u32;
+        pub fn usn_read_journal(
+            volume: Volume,
+            ring: *const u8,
+            ring_len: usize,
+            input: *const u8,
+            input_len: usize,
+            output: *mut u8,
+            output_len: usize,
+        ) -> Answer;
+        pub fn usn_read_file(
+            volume: Volume,
+            file: FileRecord,
+            parent: u64,
+            pool: *const u8,
+            pool_len: usize,
+            links: *const Link,
+            link_count: usize,
+            input: *const u8,
+            input_len: usize,
+            output: *mut u8,
+            output_len: usize,
+        ) -> Answer;
+        pub fn usn_query_file_regions(
+            volume: Volume,
+            file: FileRecord,
+            input: *const u8,
+            input_len: usize,
+            output: *mut u8,
+            output_len: usize,
+        ) -> Answer;
+        pub fn usn_get_reparse_point(
+            volume: Volume,
+            file: FileRecord,
+            data: *const u8,
+            data_len: usize,
+            output: *mut u8,
+            output_len: usize,
+        ) -> Answer;
+        pub fn usn_read_record(bytes: *const u8, len: usize, at: u64) -> Record;
+        pub fn usn_walk_reply(reply: *const u8, len: usize) -> Walk;
+        pub fn usn_list_reply(
+            reply: *const u8,
+            len: usize,
+            output: *mut u8,
+            output_len: usize,
+        ) -> Answer;
+    }
+}
+
+/// The layouts that the C interface fixes, checked when this crate is compiled.
+const _: () = {
+    assert!(size_of::<usize>() == 8);
+
+    assert!(size_of::<Volume>() == 56);
+    assert!(offset_of!(Volume, usn) == 0);
+    assert!(offset_of!(Volume, regions) == 4);
+    assert!(offset_of!(Volume, reparse) == 8);
+    assert!(offset_of!(Volume, points) == 12);
+    assert!(offset_of!(Volume, journal) == 16);
+    assert!(offset_of!(Volume, state) == 20);
+    assert!(offset_of!(Volume, id) == 24);
+    assert!(offset_of!(Volume, first) == 32);
+    assert!(offset_of!(Volume, last) == 40);
+    assert!(offset_of!(Volume, capacity) == 48);
+
+    assert!(size_of::<Change>() == 40);
+    assert!(offset_of!(Change, file) == 0);
+    assert!(offset_of!(Change, parent) == 8);
+    assert!(offset_of!(Change, time) == 16);
+    assert!(offset_of!(Change, reason) == 24);
+    assert!(offset_of!(Change, source) == 28);
+    assert!(offset_of!(Change, security) == 32);
+    assert!(offset_of!(Change, attributes) == 36);
+
+    assert!(size_of::<FileRecord>() == 56);
+    assert!(offset_of!(FileRecord, id) == 0);
+    assert!(offset_of!(FileRecord, usn) == 8);
+    assert!(offset_of!(FileRecord, eof) == 16);
+    assert!(offset_of!(FileRecord, valid) == 24);
+    assert!(offset_of!(FileRecord, attributes) == 32);
+    assert!(offset_of!(FileRecord, tag) == 36);
+    assert!(offset_of!(FileRecord, guid) == 40);
+
+    assert!(size_of::<Link>() == 12);
+    assert!(offset_of!(Link, place) == 0);
+    assert!(offset_of!(Link, length) == 4);
+    assert!(offset_of!(Link, short) == 8);
+
+    assert!(size_of::<c::Answer>() == 16);
+    assert!(offset_of!(c::Answer, status) == 0);
+    assert!(offset_of!(c::Answer, count) == 8);
+
+    assert!(size_of::<c::Walk>() == 32);
+    assert!(offset_of!(c::Walk, status) == 0);
+    assert!(offset_of!(c::Walk, position) == 8);
+    assert!(offset_of!(c::Walk, count) == 16);
+    assert!(offset_of!(c::Walk, bad) == 24);
+
+    assert!(size_of::<c::Record>() == 80);
+    assert!(offset_of!(c::Record, status) == 0);
+    assert!(offset_of!(c::Record, version) == 4);
+    assert!(offset_of!(c::Record, file) == 8);
+    assert!(offset_of!(c::Record, parent) == 16);
+    assert!(offset_of!(c::Record, usn) == 24);
+    assert!(offset_of!(c::Record, time) == 32);
+    assert!(offset_of!(c::Record, reason) == 40);
+    assert!(offset_of!(c::Record, source) == 44);
+    assert!(offset_of!(c::Record, security) == 48);
+    assert!(offset_of!(c::Record, attributes) == 52);
+    assert!(offset_of!(c::Record, name) == 56);
+    assert!(offset_of!(c::Record, length) == 64);
+    assert!(offset_of!(c::Record, next) == 72);
+};
+
+/// The status of a call.
+#[derive(Clone, Copy, Debug, PartialEq, Eq, PartialOrd, Ord, Hash)]
+#[repr(u32)]
+pub enum Status {
+    /// `STATUS_SUCCESS`: done. The only status with a count above zero.
+    Success = 0,
+    /// `STATUS_BUFFER_OVERFLOW`: a second region is due and has no room.
+    BufferOverflow = 0x8000_0005,
+    /// `STATUS_INVALID_PARAMETER`: an argument or an input field is wrong.
+    InvalidParameter = 0xC000_000D,
+    /// `STATUS_INVALID_DEVICE_REQUEST`: the volume does not support the control.
+    InvalidDeviceRequest = 0xC000_0010,
+    /// `STATUS_BUFFER_TOO_SMALL`: an input or output buffer is too short.
+    BufferTooSmall = 0xC000_0023,
+    /// `STATUS_DISK_FULL`: no position is left for the record.
+    DiskFull = 0xC000_007F,
+    /// `STATUS_FILE_CORRUPT_ERROR`: a bad file record, volume record or ring.
+    FileCorruptError = 0xC000_0102,
+    /// `STATUS_NOT_A_REPARSE_POINT`: the file has no reparse tag.
+    NotAReparsePoint = 0xC000_0275,
+    /// `STATUS_VOLUME_NOT_UPGRADED`: the volume has no reparse points.
+    VolumeNotUpgraded = 0xC000_029C,
+    /// `STATUS_JOURNAL_DELETE_IN_PROGRESS`: the journal is being deleted.
+    JournalDeleteInProgress = 0xC000_02B7,
+    /// `STATUS_JOURNAL_NOT_ACTIVE`: the volume has no journal.
+    JournalNotActive = 0xC000_02B8,
+    /// `STATUS_JOURNAL_ENTRY_DELETED`: records behind the start are gone.
+    JournalEntryDeleted = 0xC000_02CF,
+}
+
+impl Status {
+    /// All statuses, by rising number.
+    pub const ALL: [Status; 12] = [
+        Status::Success,
+        Status::BufferOverflow,
+        Status::InvalidParameter,
+        Status::InvalidDeviceRequest,
+        Status::BufferTooSmall,
+        Status::DiskFull,
+        Status::FileCorruptError,
+        Status::NotAReparsePoint,
+        Status::VolumeNotUpgraded,
+        Status::JournalDeleteInProgress,
+        Status::JournalNotActive,
+        Status::JournalEntryDeleted,
+    ];
+
+    /// The NTSTATUS number.
+    pub const fn number(self) -> u32 {
+        self as u32
+    }
+
+    /// The status with a number that the library gave back.
+    fn of(number: u32) -> Status {
+        match Status::ALL.iter().find(|status| status.number() == number) {
+            Some(status) => *status,
+            None => panic!("the library gave status {number:#010x}, which is not in the table"),
+        }
+    }
+}
+
+impl fmt::Display for Status {
+    fn fmt(&self, f: &mut fmt::Formatter<'_>) -> fmt::Result {
+        f.pad(match self {
+            Status::Success => "STATUS_SUCCESS",
+            Status::BufferOverflow => "STATUS_BUFFER_OVERFLOW",
+            Status::InvalidParameter => "STATUS_INVALID_PARAMETER",
+            Status::InvalidDeviceRequest => "STATUS_INVALID_DEVICE_REQUEST",
+            Status::BufferTooSmall => "STATUS_BUFFER_TOO_SMALL",
+            Status::DiskFull => "STATUS_DISK_FULL",
+            Status::FileCorruptError => "STATUS_FILE_CORRUPT_ERROR",
+            Status::NotAReparsePoint => "STATUS_NOT_A_REPARSE_POINT",
+            Status::VolumeNotUpgraded => "STATUS_VOLUME_NOT_UPGRADED",
+            Status::JournalDeleteInProgress => "STATUS_JOURNAL_DELETE_IN_PROGRESS",
+            Status::JournalNotActive => "STATUS_JOURNAL_NOT_ACTIVE",
+            Status::JournalEntryDeleted => "STATUS_JOURNAL_ENTRY_DELETED",
+        })
+    }
+}
+
+/// The volume record: what the volume supports, and its journal.
+///
+/// A support flag of 0 means no, any other number yes.
+#[derive(Clone, Copy, Debug, Default, PartialEq, Eq)]
+#[repr(C)]
+pub struct Volume {
+    /// Whether a file's USN data can be read.
+    pub usn: u32,
+    /// Whether file regions can be queried.
+    pub regions: u32,
+    /// Whether the reparse point control is there.
+    pub reparse: u32,
+    /// Whether the volume has reparse points at all.
+    pub points: u32,
+    /// Whether the volume supports a journal.
+    pub journal: u32,
+    /// The journal's state: 1 active, 2 being deleted, any other number idle.
+    pub state: u32,
+    /// The journal's id, or the last one used.
+    pub id: u64,
+    /// The position where the oldest kept record begins.
+    pub first: u64,
+    /// The position behind the newest record (LastUsn).
+    pub last: u64,
+    /// The ring's length in bytes, a multiple of 8 from 1,024 to 65,536.
+    pub capacity: u64,
+}
+
+/// What a post says about a change, apart from the name.
+#[derive(Clone, Copy, Debug, Default, PartialEq, Eq)]
+#[repr(C)]
+pub struct Change {
+    /// The file's id.
+    pub file: u64,
+    /// The id of the folder that holds the name.
+    pub parent: u64,
+    /// The time of the change.
+    pub time: u64,
+    /// The reasons, one bit each. A post with reason 0 is skipped.
+    pub reason: u32,
+    /// The source of the change.
+    pub source: u32,
+    /// The security id.
+    pub security: u32,
+    /// The file's attributes. 0 is written as 0x80.
+    pub attributes: u32,
+}
+
+/// A file record.
+#[derive(Clone, Copy, Debug, Default, PartialEq, Eq)]
+#[repr(C)]
+pub struct FileRecord {
+    /// The file's id.
+    pub id: u64,
+    /// The Usn of the file's last change; below 2^63.
+    pub usn: u64,
+    /// The file's length; below 2^63.
+    pub eof: u64,
+    /// The valid data length; at most `eof`.
+    pub valid: u64,
+    /// The attributes. 0 is written as 0x80.
+    pub attributes: u32,
+    /// The reparse tag; 0 for none. A tag with bit 31 is a Microsoft tag.
+    pub tag: u32,
+    /// The reparse GUID, given out for tags that are not Microsoft's.
+    pub guid: [u8; 16],
+}
+
+/// One entry of a file's link table.
+#[derive(Clone, Copy, Debug, Default, PartialEq, Eq)]
+#[repr(C)]
+pub struct Link {
+    /// Where the name begins in the name pool.
+    pub place: u32,
+    /// The name's length in bytes: even, 0 to 510.
+    pub length: u32,
+    /// The short name's length; only 0 or not 0 matters.
+    pub short: u32,
+}
+
+/// A status, and the number of output bytes written.
+#[derive(Clone, Copy, Debug, PartialEq, Eq)]
+pub struct Answer {
+    /// The status.
+    pub status: Status,
+    /// The bytes written at the start of the output; 0 for a refusal.
+    pub count: usize,
+}
+
+impl Answer {
+    /// The library's answer about an output buffer of `room` bytes.
+    fn of(answer: c::Answer, room: usize) -> Answer {
+        let status = Status::of(answer.status);
+        let count = answer.count as usize;
+        assert!(
+            count <= room && (count == 0 || status == Status::Success),
+            "the library reported {count} bytes with {status} for an output of {room}"
+        );
+        Answer { status, count }
+    }
+}
+
+impl Volume {
+    /// Creates a journal with a new id. It is empty at the kept `last`.
+    ///
+    /// On success the state becomes active, `id` becomes the new id and `first`
+    /// becomes `last`. Nothing is lent.
+    ///
+    /// Refusals, in order: [`Status::JournalDeleteInProgress`] while deleting;
+    /// [`Status::InvalidParameter`] if active, or if `id` is 0 or the last one
+    /// used; [`Status::FileCorruptError`] for a wrong `capacity` or `last`.
+    pub fn create(&mut self, id: u64) -> Status {
+        // SAFETY: the pointer comes from a live exclusive borrow of a record
+        // with the C layout.
+        Status::of(unsafe { c::usn_create(self, id) })
+    }
+
+    /// Begins to delete the journal with this id.
+    ///
+    /// On success only the state changes, to deleting. Nothing is lent.
+    ///
+    /// Refusals, in order: [`Status::JournalDeleteInProgress`];
+    /// [`Status::JournalNotActive`]; [`Status::InvalidParameter`] for a wrong
+    /// id.
+    pub fn delete(&mut self, id: u64) -> Status {
+        // SAFETY: as in `create`.
+        Status::of(unsafe { c::usn_delete(self, id) })
+    }
+
+    /// Finishes the deletion of the journal.
+    ///
+    /// On success only the state changes, to idle. Nothing is lent.
+    ///
+    /// Refusals, in order: [`Status::JournalNotActive`] if idle;
+    /// [`Status::InvalidParameter`] if active.
+    pub fn finish(&mut self) -> Status {
+        // SAFETY: as in `create`.
+        Status::of(unsafe { c::usn_finish(self) })
+    }
+
+    /// Posts a change to the journal.
+    ///
+    /// Lent are the ring and the name, in bytes of UTF-16 code units. The post
+    /// drops as few of the oldest records as needed, writes the record's bytes
+    /// into the ring and no others, and sets `first`, `last` and `usn`, the
+    /// file's Usn, which becomes the position where the record ends.
+    ///
+    /// A post is skipped with [`Status::Success`], and nothing changes, if the
+    /// volume has no journal, the journal is not active, or the reason is 0.
+    /// This comes before every refusal.
+    ///
+    /// Refusals, in order: [`Status::FileCorruptError`] for an unsound ring,
+    /// wrong positions, a wrong capacity or a ring of another length;
+    /// [`Status::InvalidParameter`] for a name that is odd, empty or above 510
+    /// bytes; [`Status::DiskFull`] if the record is longer than the ring or
+    /// `last` would pass 2^63 - 1.
+    pub fn post(&mut self, ring: &mut [u8], change: &Change, name: &[u8], usn: &mut u64) -> Status {
+        // SAFETY: each pointer and length comes from a live borrow; those of
+        // the record, the ring and the Usn are exclusive.
+        Status::of(unsafe {
+            c::usn_post(
+                self,
+                ring.as_mut_ptr(),
+                ring.len(),
+                *change,
+                name.as_ptr(),
+                name.len(),
+                usn,
+            )
+        })
+    }
+
+    /// Reads the journal from a position on.
+    ///
+    /// Lent are the ring and the input, which stay as they are, and the output.
+    /// The input has StartUsn `i64`, ReasonMask `u32`, ReturnOnlyOnClose `u32`,
+    /// Timeout and BytesToWaitFor `u64` (both ignored), the journal's id `u64`
+    /// and, from 48 bytes on, the lowest and highest version `u16`. The reply is
+    /// the position to go on with, `u64`, and the selected records behind it.
+    ///
+    /// Refusals, in order: [`Status::InvalidDeviceRequest`] without a journal on
+    /// the volume; [`Status::JournalDeleteInProgress`];
+    /// [`Status::JournalNotActive`]; [`Status::InvalidParameter`] below 40 bytes
+    /// of input; [`Status::BufferTooSmall`] below 8 bytes of output;
+    /// [`Status::InvalidParameter`] for the versions, then for the id;
+    /// [`Status::FileCorruptError`] as for a post;
+    /// [`Status::JournalEntryDeleted`] if StartUsn is not 0 and below `first`;
+    /// [`Status::InvalidParameter`] if it is above `last` or off a record
+    /// boundary; [`Status::BufferTooSmall`] if the first selected record does
+    /// not fit.
+    pub fn read_journal(&self, ring: &[u8], input: &[u8], output: &mut [u8]) -> Answer {
+        // SAFETY: each pointer and length comes from a live borrow; that of the
+        // output is exclusive.
+        let answer = unsafe {
+            c::usn_read_journal(
+                *self,
+                ring.as_ptr(),
+                ring.len(),
+                input.as_ptr(),
+                input.len(),
+                output.as_mut_ptr(),
+                output.len(),
+            )
+        };
+        Answer::of(answer, output.len())
+    }
+
+    /// Reads a file's USN data as one record.
+    ///
+    /// Lent are the name pool, the link table and the input, which stay as they
+    /// are, and the output. The name is that of the first link with a short
+    /// name, else the first that is not empty, else empty. `parent` is that of
+    /// the link through which the file was opened. The input may hold the lowest
+    /// and highest version `u16`; below 4 bytes it is ignored and the version is
+    /// 2.
+    ///
+    /// Refusals, in order: [`Status::InvalidDeviceRequest`] without support;
+    /// [`Status::FileCorruptError`] for a negative Usn or a bad link anywhere in
+    /// the table; [`Status::InvalidParameter`] for the versions;
+    /// [`Status::BufferTooSmall`] below 64 bytes of output for version 2 or 80
+    /// for version 3, then below the record's length.
+    pub fn read_file(
+        &self,
+        file: &FileRecord,
+        parent: u64,
+        pool: &[u8],
+        links: &[Link],
+        input: &[u8],
+        output: &mut [u8],
+    ) -> Answer {
+        // SAFETY: as in `read_journal`; links have the C layout.
+        let answer = unsafe {
+            c::usn_read_file(
+                *self,
+                *file,
+                parent,
+                pool.as_ptr(),
+                pool.len(),
+                links.as_ptr(),
+                links.len(),
+                input.as_ptr(),
+                input.len(),
+                output.as_mut_ptr(),
+                output.len(),
+            )
+        };
+        Answer::of(answer, output.len())
+    }
+
+    /// Queries which parts of a file's range hold valid data.
+    ///
+    /// Lent are the input, which stays as it is, and the output. The input has
+    /// FileOffset and Length `i64` and DesiredUsage `u32`, in 24 bytes; an empty
+    /// input asks for the whole file. The reply is 16 bytes with the counts and
+    /// one or two regions of 24 bytes, or nothing for an offset at or behind the
+    /// file's end.
+    ///
+    /// Refusals, in order: [`Status::InvalidDeviceRequest`] without support;
+    /// [`Status::FileCorruptError`] for a wrong `eof` or `valid`;
+    /// [`Status::BufferTooSmall`] for an input of 1 to 23 bytes;
+    /// [`Status::InvalidParameter`] for a length of 0 or below, a range that
+    /// passes 2^63 - 1, or a usage without flag 1; [`Status::BufferTooSmall`]
+    /// below 40 bytes of output; [`Status::BufferOverflow`] if a second region is
+    /// due and the output is below 64 bytes.
+    pub fn query_file_regions(&self, file: &FileRecord, input: &[u8], output: &mut [u8]) -> Answer {
+        // SAFETY: as in `read_journal`.
+        let answer = unsafe {
+            c::usn_query_file_regions(
+                *self,
+                *file,
+                input.as_ptr(),
+                input.len(),
+                output.as_mut_ptr(),
+                output.len(),
+            )
+        };
+        Answer::of(answer, output.len())
+    }
+
+    /// Gets a file's reparse point, with as much of its data as fits.
+    ///
+    /// Lent are the reparse data, which stay as they are, and the output. The
+    /// reply is the tag `u32`, the whole data length `u16`, a zero `u16`, the
+    /// GUID unless the tag is Microsoft's, and the data.
+    ///
+    /// Refusals, in order: [`Status::InvalidDeviceRequest`] without the control;
+    /// [`Status::VolumeNotUpgraded`] without reparse points on the volume;
+    /// [`Status::FileCorruptError`] for too much data, or any with tag 0;
+    /// [`Status::NotAReparsePoint`] for tag 0; [`Status::BufferTooSmall`] below 8
+    /// bytes of output for a Microsoft tag or 24 for another.
+    pub fn get_reparse_point(&self, file: &FileRecord, data: &[u8], output: &mut [u8]) -> Answer {
+        // SAFETY: as in `read_journal`.
+        let answer = unsafe {
+            c::usn_get_reparse_point(
+                *self,
+                *file,
+                data.as_ptr(),
+                data.len(),
+                output.as_mut_ptr(),
+                output.len(),
+            )
+        };
+        Answer::of(answer, output.len())
+    }
+}
+
+/// The fields of one record.
+#[derive(Clone, Debug, PartialEq, Eq)]
+pub struct Record {
+    /// The version, 2 or 3.
+    pub version: u32,
+    /// The file's id.
+    pub file: u64,
+    /// The parent's id.
+    pub parent: u64,
+    /// The Usn; below 2^63.
+    pub usn: u64,
+    /// The time of the change.
+    pub time: u64,
+    /// The reasons, one bit each.
+    pub reason: u32,
+    /// The source of the change.
+    pub source: u32,
+    /// The security id.
+    pub security: u32,
+    /// The attributes; not 0.
+    pub attributes: u32,
+    /// Where the name lies in the bytes that were read.
+    pub name: Range<usize>,
+    /// The place behind the record in the bytes that were read.
+    pub next: usize,
+}
+
+/// Reads the record that begins at a place in some bytes.
+///
+/// The bytes are lent and stay as they are. `None` stands for
+/// [`Status::InvalidParameter`]: no record of version 2.0 or 3.0 with every
+/// fixed field, length and padding byte right lies there.
+pub fn read_record(bytes: &[u8], at: usize) -> Option<Record> {
+    // SAFETY: pointer and length come from one live borrow.
+    let record = unsafe { c::usn_read_record(bytes.as_ptr(), bytes.len(), at as u64) };
+    match Status::of(record.status) {
+        Status::Success => {
+            let name = record.name as usize;
+            Some(Record {
+                version: record.version,
+                file: record.file,
+                parent: record.parent,
+                usn: record.usn,
+                time: record.time,
+                reason: record.reason,
+                source: record.source,
+                security: record.security,
+                attributes: record.attributes,
+                name: name..name + record.length as usize,
+                next: record.next as usize,
+            })
+        }
+        Status::InvalidParameter => {
+            assert!(
+                (record.version, record.name, record.length, record.next) == (0, 0, 0, 0),
+                "the library gave fields for a record that it refused"
+            );
+            None
+        }
+        other => panic!("the library gave {other} for a record"),
+    }
+}
+
+/// What a journal's reply holds.
+#[derive(Clone, Copy, Debug, PartialEq, Eq)]
+pub struct Walk {
+    /// The position to go on with.
+    pub position: u64,
+    /// The number of records.
+    pub count: usize,
+}
+
+/// Walks a journal's whole reply: 8 position bytes, then records to the end.
+///
+/// The reply is lent and stays as it is. An error stands for
+/// [`Status::InvalidParameter`] and holds the bad record's first byte, or 0 for
+/// a reply below 8 bytes.
+pub fn walk_reply(reply: &[u8]) -> Result<Walk, usize> {
+    // SAFETY: pointer and length come from one live borrow.
+    let walk = unsafe { c::usn_walk_reply(reply.as_ptr(), reply.len()) };
+    match Status::of(walk.status) {
+        Status::Success => Ok(Walk {
+            position: walk.position,
+            count: walk.count as usize,
+        }),
+        Status::InvalidParameter => {
+            assert!(
+                (walk.position, walk.count) == (0, 0),
+                "the library gave a position or a count for a reply that it refused"
+            );
+            Err(walk.bad as usize)
+        }
+        other => panic!("the library gave {other} for a walk"),
+    }
+}
+
+/// Writes a journal's reply as text, as the program `usnlist` prints it.
+///
+/// Lent are the reply, which stays as it is, and the output. A bad reply is no
+/// refusal: its text is `bad at N`, with 65536 for N if the reply is above
+/// 65,536 bytes.
+///
+/// The one refusal is [`Status::BufferTooSmall`], for an output shorter than 64
+/// bytes and twice the reply's length.
+pub fn list_reply(reply: &[u8], output: &mut [u8]) -> Answer {
+    // SAFETY: each pointer and length comes from a live borrow; that of the
+    // output is exclusive.
+    let answer = unsafe {
+        c::usn_list_reply(
+            reply.as_ptr(),
+            reply.len(),
+            output.as_mut_ptr(),
+            output.len(),
+        )
+    };
+    Answer::of(answer, output.len())
+}

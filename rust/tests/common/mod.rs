@@ -1,0 +1,499 @@
+//! What the tests share: random numbers, the seed, counts of statuses, lent
+//! buffers with guard bytes, and the layout of a record.
+
+#![allow(dead_code)]
+
+use lanhduxe::{Change, FileRecord, Link, Status, Volume};
+use std::fmt;
+
+/// 2^63, the first pattern that is negative.
+pub const NEGATIVE: u64 = 1 << 63;
+
+/// Random numbers (splitmix64).
+#[derive(Clone)]
+pub struct Rng(u64);
+
+impl Rng {
+    /// The numbers for one test. Each test has a stream of its own.
+    pub fn new(test: &str) -> Rng {
+        let seed = seed();
+        println!("{test}: seed {seed} (set LANHDUXE_SEED to run with another)");
+        let mut state = seed;
+        for byte in test.bytes() {
+            state = state.wrapping_mul(0x100_0000_01B3) ^ byte as u64;
+        }
+        Rng(state)
+    }
+
+    /// Any number.
+    pub fn draw(&mut self) -> u64 {
+        self.0 = self.0.wrapping_add(0x9E37_79B9_7F4A_7C15);
+        let mut z = self.0;
+        z = (z ^ (z >> 30)).wrapping_mul(0xBF58_476D_1CE4_E5B9);
+        z = (z ^ (z >> 27)).wrapping_mul(0x94D0_49BB_1331_11EB);
+        z ^ (z >> 31)
+    }
+
+    /// A number from 0 to `limit - 1`.
+    pub fn below(&mut self, limit: u64) -> u64 {
+        ((self.draw() as u128 * limit as u128) >> 64) as u64
+    }
+
+    /// A number from `low` to `high`, both included.
+    pub fn between(&mut self, low: u64, high: u64) -> u64 {
+        low + self.below(high - low + 1)
+    }
+
+    /// True `part` times out of a hundred.
+    pub fn percent(&mut self, part: u64) -> bool {
+        self.below(100) < part
+    }
+
+    /// One of some values.
+    pub fn pick<T: Copy>(&mut self, values: &[T]) -> T {
+        values[self.below(values.len() as u64) as usize]
+    }
+
+    /// A value, one less, or one more.
+    pub fn around(&mut self, value: u64) -> u64 {
+        value.wrapping_add(self.below(3)).wrapping_sub(1)
+    }
+
+    /// Random bytes over a whole buffer.
+    pub fn fill(&mut self, bytes: &mut [u8]) {
+        for chunk in bytes.chunks_mut(8) {
+            let word = self.draw().to_le_bytes();
+            chunk.copy_from_slice(&word[..chunk.len()]);
+        }
+    }
+
+    /// Some random bytes.
+    pub fn bytes(&mut self, length: usize) -> Vec<u8> {
+        let mut bytes = vec![0; length];
+        self.fill(&mut bytes);
+        bytes
+    }
+
+    /// A 32-bit number, often a small or an extreme one.
+    pub fn word(&mut self) -> u32 {
+        match self.below(6) {
+            0 => 0,
+            1 => 1 << self.below(32),
+            2 => u32::MAX,
+            3 => self.below(256) as u32,
+            _ => self.draw() as u32,
+        }
+    }
+
+    /// A 64-bit number, often a small or an extreme one.
+    pub fn long(&mut self) -> u64 {
+        match self.below(7) {
+            0 => 0,
+            1 => 1 << self.below(64),
+            2 => u64::MAX - self.below(3),
+            3 => NEGATIVE.wrapping_sub(1).wrapping_add(self.below(3)),
+            4 => self.below(4096),
+            _ => self.draw(),
+        }
+    }
+
+    /// A support flag that means yes.
+    pub fn yes(&mut self) -> u32 {
+        self.pick(&[1, 1, 1, 2, 0x100, 0x8000_0000, u32::MAX])
+    }
+
+    /// A support flag, no in `part` cases out of a hundred.
+    pub fn flag(&mut self, part: u64) -> u32 {
+        if self.percent(part) {
+            0
+        } else {
+            self.yes()
+        }
+    }
+}
+
+/// The seed: a constant, or `LANHDUXE_SEED`.
+pub fn seed() -> u64 {
+    match std::env::var("LANHDUXE_SEED") {
+        Ok(text) => text.parse().expect("LANHDUXE_SEED is a decimal number"),
+        Err(_) => 20_240_229,
+    }
+}
+
+/// How often each status came.
+pub struct Counts {
+    test: &'static str,
+    counts: [u64; 12],
+}
+
+impl Counts {
+    pub fn new(test: &'static str) -> Counts {
+        Counts {
+            test,
+            counts: [0; 12],
+        }
+    }
+
+    pub fn add(&mut self, status: Status) {
+        let place = Status::ALL.iter().position(|known| *known == status);
+        self.counts[place.expect("a known status")] += 1;
+    }
+
+    /// Prints the table and asserts that just these statuses were seen, over at
+    /// least `calls` calls.
+    pub fn finish(&self, expected: &[Status], calls: u64) {
+        let total: u64 = self.counts.iter().sum();
+        println!("{}: {total} calls", self.test);
+        for (status, count) in Status::ALL.iter().zip(self.counts) {
+            if count > 0 {
+                println!("  {status:<34} {count:>8}");
+            }
+        }
+        assert!(total >= calls, "{}: only {total} calls", self.test);
+        for (status, count) in Status::ALL.iter().zip(self.counts) {
+            assert_eq!(
+                count > 0,
+                expected.contains(status),
+                "{}: {status} was seen {count} times (seed {})",
+                self.test,
+                seed()
+            );
+        }
+    }
+}
+
+/// The statuses that each test must see.
+pub mod expected {
+    use lanhduxe::Status::{self, *};
+
+    pub const JOURNAL: [Status; 9] = [
+        Success,
+        InvalidParameter,
+        InvalidDeviceRequest,
+        BufferTooSmall,
+        DiskFull,
+        FileCorruptError,
+        JournalDeleteInProgress,
+        JournalNotActive,
+        JournalEntryDeleted,
+    ];
+    pub const FILE: [Status; 5] = [
+        Success,
+        InvalidParameter,
+        InvalidDeviceRequest,
+        BufferTooSmall,
+        FileCorruptError,
+    ];
+    pub const REGIONS: [Status; 6] = [
+        Success,
+        BufferOverflow,
+        InvalidParameter,
+        InvalidDeviceRequest,
+        BufferTooSmall,
+        FileCorruptError,
+    ];
+    pub const REPARSE: [Status; 6] = [
+        Success,
+        InvalidDeviceRequest,
+        BufferTooSmall,
+        FileCorruptError,
+        NotAReparsePoint,
+        VolumeNotUpgraded,
+    ];
+    pub const RECORD: [Status; 2] = [Success, InvalidParameter];
+    pub const LISTER: [Status; 2] = [Success, BufferTooSmall];
+}
+
+/// Bytes that print as their length and hexadecimal digits.
+pub struct Hex<'a>(pub &'a [u8]);
+
+impl fmt::Debug for Hex<'_> {
+    fn fmt(&self, f: &mut fmt::Formatter<'_>) -> fmt::Result {
+        write!(f, "{} bytes ", self.0.len())?;
+        for byte in self.0 {
+            write!(f, "{byte:02x}")?;
+        }
+        Ok(())
+    }
+}
+
+/// A lent buffer with random bytes in it and guard bytes behind it. One copy
+/// goes to the library, one to the model, and one shows how both were before.
+pub struct Lent {
+    pub length: usize,
+    pub before: Vec<u8>,
+    pub library: Vec<u8>,
+    pub model: Vec<u8>,
+}
+
+/// Guard bytes behind each lent buffer.
+pub const GUARD: usize = 16;
+
+impl Lent {
+    /// An output buffer of this length, full of random bytes.
+    pub fn output(rng: &mut Rng, length: usize) -> Lent {
+        Lent::of(rng.bytes(length + GUARD), length)
+    }
+
+    /// A buffer that holds some bytes.
+    pub fn holding(rng: &mut Rng, bytes: &[u8]) -> Lent {
+        let mut all = bytes.to_vec();
+        all.extend(rng.bytes(GUARD));
+        Lent::of(all, bytes.len())
+    }
+
+    fn of(all: Vec<u8>, length: usize) -> Lent {
+        Lent {
+            length,
+            library: all.clone(),
+            model: all.clone(),
+            before: all,
+        }
+    }
+
+    /// The bytes as lent to the library.
+    pub fn for_library(&mut self) -> &mut [u8] {
+        &mut self.library[..self.length]
+    }
+
+    /// The bytes as lent to the model.
+    pub fn for_model(&mut self) -> &mut [u8] {
+        &mut self.model[..self.length]
+    }
+
+    /// The library changed nothing.
+    pub fn same(&self) -> bool {
+        self.library == self.before
+    }
+
+    /// The library left what the model left, and nothing changed past `count`.
+    pub fn agrees(&self, count: usize) -> bool {
+        self.library == self.model && self.library[count..] == self.before[count..]
+    }
+}
+
+/// Panics with the seed, the call's index and the call, unless `agree` holds.
+pub fn check(agree: bool, test: &str, index: u64, call: impl FnOnce() -> String) {
+    if !agree {
+        panic!("{test}: seed {}, call {index}: {}", seed(), call());
+    }
+}
+
+pub fn model_volume(volume: &Volume) -> model::Volume {
+    model::Volume {
+        usn: volume.usn,
+        regions: volume.regions,
+        reparse: volume.reparse,
+        points: volume.points,
+        journal: volume.journal,
+        state: volume.state,
+        id: volume.id,
+        first: volume.first,
+        last: volume.last,
+        capacity: volume.capacity,
+    }
+}
+
+pub fn model_change(change: &Change) -> model::Change {
+    model::Change {
+        file: change.file,
+        parent: change.parent,
+        time: change.time,
+        reason: change.reason,
+        source: change.source,
+        security: change.security,
+        attributes: change.attributes,
+    }
+}
+
+pub fn model_file(file: &FileRecord) -> model::File {
+    model::File {
+        id: file.id,
+        usn: file.usn,
+        eof: file.eof,
+        valid: file.valid,
+        attributes: file.attributes,
+        tag: file.tag,
+        guid: file.guid,
+    }
+}
+
+pub fn model_links(links: &[Link]) -> Vec<model::Link> {
+    links
+        .iter()
+        .map(|link| model::Link {
+            place: link.place,
+            length: link.length,
+            short: link.short,
+        })
+        .collect()
+}
+
+/// A record's length in a version, for a name of so many bytes.
+pub fn record_length(version: u16, name: usize) -> usize {
+    let fixed = if version == 2 { 60 } else { 76 };
+    (fixed + name).div_ceil(8) * 8
+}
+
+/// A record's bytes in a version, as its layout has them.
+pub fn lay_out(version: u16, change: &Change, usn: u64, name: &[u8]) -> Vec<u8> {
+    let length = record_length(version, name.len());
+    let offset: u16 = if version == 2 { 60 } else { 76 };
+    let attributes = if change.attributes == 0 {
+        0x80
+    } else {
+        change.attributes
+    };
+    let mut bytes = Vec::with_capacity(length);
+    bytes.extend((length as u32).to_le_bytes());
+    bytes.extend(version.to_le_bytes());
+    bytes.extend(0u16.to_le_bytes());
+    for id in [change.file, change.parent] {
+        bytes.extend(id.to_le_bytes());
+        if version == 3 {
+            bytes.extend([0; 8]);
+        }
+    }
+    bytes.extend(usn.to_le_bytes());
+    bytes.extend(change.time.to_le_bytes());
+    bytes.extend(change.reason.to_le_bytes());
+    bytes.extend(change.source.to_le_bytes());
+    bytes.extend(change.security.to_le_bytes());
+    bytes.extend(attributes.to_le_bytes());
+    bytes.extend((name.len() as u16).to_le_bytes());
+    bytes.extend(offset.to_le_bytes());
+    bytes.extend(name);
+    bytes.resize(length, 0);
+    bytes
+}
+
+/// The input of a journal read; a version pair is there from 48 bytes on.
+#[derive(Clone, Copy, Debug)]
+pub struct ReadInput {
+    pub start: u64,
+    pub mask: u32,
+    pub only_on_close: u32,
+    pub id: u64,
+    pub lowest: u16,
+    pub highest: u16,
+    pub size: usize,
+}
+
+impl ReadInput {
+    /// The input's bytes, at most 64, with random ones in the ignored places.
+    pub fn bytes(&self, rng: &mut Rng) -> Vec<u8> {
+        let mut bytes = Vec::with_capacity(64);
+        bytes.extend(self.start.to_le_bytes());
+        bytes.extend(self.mask.to_le_bytes());
+        bytes.extend(self.only_on_close.to_le_bytes());
+        bytes.extend(rng.draw().to_le_bytes());
+        bytes.extend(rng.draw().to_le_bytes());
+        bytes.extend(self.id.to_le_bytes());
+        bytes.extend(self.lowest.to_le_bytes());
+        bytes.extend(self.highest.to_le_bytes());
+        bytes.extend(rng.bytes(20));
+        bytes.truncate(self.size);
+        bytes
+    }
+
+    /// The version that this input asks for, if it asks for a known one.
+    pub fn version(&self) -> Option<u16> {
+        if self.size < 48 {
+            return Some(2);
+        }
+        if self.lowest > self.highest || self.lowest > 3 || self.highest < 2 {
+            return None;
+        }
+        Some(if self.highest >= 3 { 3 } else { 2 })
+    }
+
+    /// Whether the mask and the flag select a reason.
+    pub fn selects(&self, reason: u32) -> bool {
+        selects(self.mask, self.only_on_close, reason)
+    }
+}
+
+/// Whether a mask and an only-on-close flag select a reason.
+pub fn selects(mask: u32, only_on_close: u32, reason: u32) -> bool {
+    reason & mask != 0 && (only_on_close == 0 || reason >> 31 == 1)
+}
+
+/// A reason: mostly one or two bits, sometimes 0 or with the close bit.
+pub fn reason(rng: &mut Rng) -> u32 {
+    let bits = match rng.below(10) {
+        0 => 0,
+        1..=5 => 1 << rng.below(32),
+        6..=7 => 1 << rng.below(3) | 1 << rng.below(32),
+        8 => u32::MAX,
+        _ => rng.draw() as u32,
+    };
+    if rng.percent(25) {
+        bits | 0x8000_0000
+    } else {
+        bits
+    }
+}
+
+/// A reason mask: all, none, one bit, few bits or any.
+pub fn mask(rng: &mut Rng) -> u32 {
+    match rng.below(10) {
+        0..=3 => u32::MAX,
+        4 => 0,
+        5..=6 => 1 << rng.below(32),
+        7 => 0x8000_0000,
+        8 => 1 << rng.below(3) | 1 << rng.below(3),
+        _ => rng.draw() as u32,
+    }
+}
+
+/// A name's length for a post: good ones, and one in `bad` not good.
+pub fn name_length(rng: &mut Rng, bad: u64) -> usize {
+    if bad > 0 && rng.below(bad) == 0 {
+        return rng.pick(&[0, 0, 1, 3, 509, 511, 512, 513, 514, 600, 65_536 + 2]);
+    }
+    match rng.below(10) {
+        0..=1 => 2,
+        2 => 4,
+        3 => 6,
+        4 => 508,
+        5 => 510,
+        6..=8 => 2 * rng.between(1, 20) as usize,
+        _ => 2 * rng.between(1, 255) as usize,
+    }
+}
+
+/// The fields of a change.
+pub fn change(rng: &mut Rng) -> Change {
+    Change {
+        file: rng.long(),
+        parent: rng.long(),
+        time: rng.long(),
+        reason: reason(rng),
+        source: rng.word(),
+        security: rng.word(),
+        attributes: rng.word(),
+    }
+}
+
+/// A right capacity, more often a small one.
+pub fn capacity(rng: &mut Rng) -> u64 {
+    match rng.below(20) {
+        0..=4 => 1024,
+        5..=9 => 8 * rng.between(128, 160),
+        10..=15 => 8 * rng.between(128, 512),
+        16..=17 => 8 * rng.between(512, 1024),
+        18 => 8 * rng.between(1024, 8192),
+        _ => rng.pick(&[4096, 16_384, 65_528, 65_536]),
+    }
+}
+
+/// A right LastUsn for a creation: 0, small, large, or close to the limit.
+pub fn last_usn(rng: &mut Rng) -> u64 {
+    match rng.below(8) {
+        0..=2 => 0,
+        3..=4 => 8 * rng.below(1 << 14),
+        5 => 8 * rng.below(1 << 60),
+        6 => (1 << 32) - 8 * rng.below(64),
+        _ => NEGATIVE - 8 - 8 * rng.below(2500),
+    }
+}

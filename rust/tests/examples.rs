@@ -1,0 +1,394 @@
+//! Plain examples of each call, with the numbers written out.
+
+mod common;
+
+use common::{expected, lay_out};
+use lanhduxe::{list_reply, read_record, walk_reply};
+use lanhduxe::{Answer, Change, FileRecord, Link, Status, Volume};
+
+/// A volume that supports everything, with an idle journal.
+fn volume(capacity: u64) -> Volume {
+    Volume {
+        usn: 1,
+        regions: 1,
+        reparse: 1,
+        points: 1,
+        journal: 1,
+        capacity,
+        ..Volume::default()
+    }
+}
+
+fn success(count: usize) -> Answer {
+    Answer {
+        status: Status::Success,
+        count,
+    }
+}
+
+fn refused(status: Status) -> Answer {
+    Answer { status, count: 0 }
+}
+
+fn word(bytes: &[u8], at: usize) -> u64 {
+    u64::from_le_bytes(bytes[at..at + 8].try_into().expect("eight bytes"))
+}
+
+fn versions(lowest: u16, highest: u16) -> [u8; 4] {
+    let (low, high) = (lowest.to_le_bytes(), highest.to_le_bytes());
+    [low[0], low[1], high[0], high[1]]
+}
+
+#[test]
+fn the_statuses_have_their_numbers_and_names() {
+    let table = [
+        (0, "STATUS_SUCCESS"),
+        (0x8000_0005, "STATUS_BUFFER_OVERFLOW"),
+        (0xC000_000D, "STATUS_INVALID_PARAMETER"),
+        (0xC000_0010, "STATUS_INVALID_DEVICE_REQUEST"),
+        (0xC000_0023, "STATUS_BUFFER_TOO_SMALL"),
+        (0xC000_007F, "STATUS_DISK_FULL"),
+        (0xC000_0102, "STATUS_FILE_CORRUPT_ERROR"),
+        (0xC000_0275, "STATUS_NOT_A_REPARSE_POINT"),
+        (0xC000_029C, "STATUS_VOLUME_NOT_UPGRADED"),
+        (0xC000_02B7, "STATUS_JOURNAL_DELETE_IN_PROGRESS"),
+        (0xC000_02B8, "STATUS_JOURNAL_NOT_ACTIVE"),
+        (0xC000_02CF, "STATUS_JOURNAL_ENTRY_DELETED"),
+    ];
+    for (status, (number, name)) in Status::ALL.iter().zip(table) {
+        assert_eq!(status.number(), number);
+        assert_eq!(status.to_string(), name);
+    }
+}
+
+#[test]
+fn the_random_tests_see_every_status() {
+    let tests = [
+        &expected::JOURNAL[..],
+        &expected::FILE,
+        &expected::REGIONS,
+        &expected::REPARSE,
+    ];
+    for status in Status::ALL {
+        assert!(tests.iter().any(|seen| seen.contains(&status)), "{status}");
+    }
+}
+
+#[test]
+fn record_lengths() {
+    let pool = [0x61; 510];
+    for (name, two, three) in [(4, 64, 80), (6, 72, 88), (510, 576, 592)] {
+        let links = [Link {
+            place: 0,
+            length: name,
+            short: 0,
+        }];
+        for (highest, length) in [(2, two), (3, three)] {
+            let mut output = [0xEE; 600];
+            let answer = volume(1024).read_file(
+                &FileRecord::default(),
+                5,
+                &pool,
+                &links,
+                &versions(2, highest),
+                &mut output,
+            );
+            assert_eq!(answer, success(length));
+            assert_eq!(output[..4], (length as u32).to_le_bytes());
+            assert!(output[length..].iter().all(|byte| *byte == 0xEE));
+        }
+    }
+}
+
+#[test]
+fn file_read_versions() {
+    let read = |lowest, highest| {
+        let mut output = [0; 80];
+        let input = versions(lowest, highest);
+        let answer =
+            volume(1024).read_file(&FileRecord::default(), 5, &[], &[], &input, &mut output);
+        (answer.status, output[4])
+    };
+    for (lowest, highest) in [(3, 2), (4, 9), (0, 1)] {
+        assert_eq!(read(lowest, highest), (Status::InvalidParameter, 0));
+    }
+    assert_eq!(read(2, 9), (Status::Success, 3));
+    assert_eq!(read(0, 2), (Status::Success, 2));
+}
+
+#[test]
+fn file_read_without_links() {
+    let file = FileRecord {
+        id: 9,
+        usn: 80,
+        attributes: 0x20,
+        ..FileRecord::default()
+    };
+    let change = Change {
+        file: 9,
+        parent: 5,
+        attributes: 0x20,
+        ..Change::default()
+    };
+    let mut output = [0xEE; 64];
+    assert_eq!(
+        volume(1024).read_file(&file, 5, &[], &[], &[], &mut output),
+        success(64)
+    );
+    assert_eq!(output[..], lay_out(2, &change, 80, &[]));
+    assert_eq!(
+        volume(1024).read_file(&file, 5, &[], &[], &[], &mut output[..63]),
+        refused(Status::BufferTooSmall)
+    );
+}
+
+#[test]
+fn file_read_takes_the_name_of_the_first_link_with_a_short_name() {
+    let pool = *b"a\0b\0c\0d\0";
+    let link = |place, length, short| Link {
+        place,
+        length,
+        short,
+    };
+    let name = |links: &[Link]| {
+        let mut output = [0; 64];
+        let answer =
+            volume(1024).read_file(&FileRecord::default(), 5, &pool, links, &[], &mut output);
+        assert_eq!(answer, success(64));
+        let record = read_record(&output, 0).expect("a record");
+        assert_eq!(record.parent, 5);
+        output[record.name].to_vec()
+    };
+    assert_eq!(
+        name(&[link(0, 2, 0), link(2, 2, 24), link(4, 2, 24)]),
+        b"b\0"
+    );
+    assert_eq!(name(&[link(0, 0, 0), link(4, 2, 0), link(6, 2, 0)]), b"c\0");
+    // The search stops at a short name even if that link's name is empty.
+    assert_eq!(name(&[link(0, 2, 0), link(0, 0, 1), link(4, 2, 1)]), b"");
+}
+
+/// The regions of a reply: offset, length and usage.
+fn regions(output: &[u8], answer: Answer) -> Vec<(u64, u64, u64)> {
+    assert_eq!(answer.status, Status::Success);
+    let count = (answer.count - 16) / 24;
+    let head = [0, count as u32, count as u32, 0];
+    for (place, expected) in head.iter().enumerate() {
+        assert_eq!(output[4 * place..4 * place + 4], expected.to_le_bytes());
+    }
+    (0..count)
+        .map(|entry| {
+            let at = 16 + 24 * entry;
+            (
+                word(output, at),
+                word(output, at + 8),
+                word(output, at + 16),
+            )
+        })
+        .collect()
+}
+
+fn region_input(offset: u64, length: u64, usage: u32) -> Vec<u8> {
+    let mut input = Vec::new();
+    input.extend(offset.to_le_bytes());
+    input.extend(length.to_le_bytes());
+    input.extend(usage.to_le_bytes());
+    input.extend([0; 4]);
+    input
+}
+
+#[test]
+fn file_regions() {
+    let volume = volume(1024);
+    let file = FileRecord {
+        eof: 100,
+        valid: 60,
+        ..FileRecord::default()
+    };
+    let mut output = [0xEE; 64];
+
+    let answer = volume.query_file_regions(&file, &[], &mut output);
+    assert_eq!(regions(&output, answer), [(0, 60, 1), (60, 40, 0)]);
+    assert_eq!(
+        volume.query_file_regions(&file, &[], &mut output[..63]),
+        refused(Status::BufferOverflow)
+    );
+    let answer = volume.query_file_regions(&file, &region_input(50, 20, 1), &mut output);
+    assert_eq!(regions(&output, answer), [(50, 10, 1), (60, 10, 0)]);
+    let answer = volume.query_file_regions(&file, &region_input(50, 10, 3), &mut output);
+    assert_eq!(regions(&output, answer), [(50, 10, 3)]);
+    assert_eq!(
+        volume.query_file_regions(&file, &region_input(100, 10, 1), &mut output),
+        success(0)
+    );
+    assert_eq!(
+        volume.query_file_regions(&file, &region_input(1, (1 << 63) - 1, 1), &mut output),
+        refused(Status::InvalidParameter)
+    );
+
+    let empty = FileRecord::default();
+    let answer = volume.query_file_regions(&empty, &[], &mut output);
+    assert_eq!(answer.count, 40);
+    assert_eq!(regions(&output, answer), [(0, 0, 0)]);
+}
+
+#[test]
+fn reparse_point_with_a_short_output() {
+    let file = FileRecord {
+        tag: 0xA000_000C,
+        ..FileRecord::default()
+    };
+    let data: Vec<u8> = (1..=20).collect();
+    let mut output = [0xEE; 28];
+    assert_eq!(
+        volume(1024).get_reparse_point(&file, &data, &mut output[..7]),
+        refused(Status::BufferTooSmall)
+    );
+    assert_eq!(
+        volume(1024).get_reparse_point(&file, &data, &mut output[..18]),
+        success(18)
+    );
+    assert_eq!(output[..8], [0x0C, 0, 0, 0xA0, 20, 0, 0, 0]);
+    assert_eq!(output[8..18], data[..10]);
+    assert_eq!(output[18..], [0xEE; 10]);
+}
+
+/// A journal of 1,024 bytes with thirteen records, names of 2 bytes.
+fn thirteen() -> (Volume, Vec<u8>) {
+    let mut volume = volume(1024);
+    let mut ring = vec![0; 1024];
+    assert_eq!(volume.create(7), Status::Success);
+    for number in 1..=13 {
+        let change = Change {
+            file: number,
+            parent: 5,
+            reason: 0x100,
+            ..Change::default()
+        };
+        let mut usn = 0;
+        assert_eq!(
+            volume.post(&mut ring, &change, b"a\0", &mut usn),
+            Status::Success
+        );
+        assert_eq!(usn, 80 * number);
+    }
+    (volume, ring)
+}
+
+fn read_input(start: u64) -> Vec<u8> {
+    let mut input = Vec::new();
+    input.extend(start.to_le_bytes());
+    input.extend(u32::MAX.to_le_bytes());
+    input.extend([0; 20]);
+    input.extend(7u64.to_le_bytes());
+    input
+}
+
+#[test]
+fn journal_starts() {
+    let (volume, ring) = thirteen();
+    assert_eq!((volume.first, volume.last), (80, 1040));
+    let mut output = [0; 600];
+    let mut read = |start| volume.read_journal(&ring, &read_input(start), &mut output);
+    assert_eq!(read(40), refused(Status::JournalEntryDeleted));
+    assert_eq!(
+        read(0u64.wrapping_sub(8)),
+        refused(Status::JournalEntryDeleted)
+    );
+    assert_eq!(read(100), refused(Status::InvalidParameter));
+    assert_eq!(read(1048), refused(Status::InvalidParameter));
+    assert_eq!(read(1040), success(8));
+    assert_eq!(word(&output, 0), 1040);
+}
+
+#[test]
+fn journal_reads_go_on_where_the_output_ended() {
+    let (volume, ring) = thirteen();
+    let mut output = [0xEE; 200];
+    assert_eq!(
+        volume.read_journal(&ring, &read_input(80), &mut output[..71]),
+        refused(Status::BufferTooSmall)
+    );
+    assert_eq!(
+        volume.read_journal(&ring, &read_input(80), &mut output[..136]),
+        success(136)
+    );
+    assert_eq!(output[136..], [0xEE; 64]);
+    let walk = walk_reply(&output[..136]).expect("a whole reply");
+    assert_eq!((walk.position, walk.count), (240, 2));
+    let first = read_record(&output, 8).expect("a record");
+    let second = read_record(&output, first.next).expect("a record");
+    assert_eq!((first.version, first.file, first.usn), (2, 2, 160));
+    assert_eq!((second.version, second.file, second.usn), (2, 3, 240));
+    assert_eq!((second.attributes, second.next), (0x80, 136));
+}
+
+#[test]
+fn a_journal_is_deleted_and_created_again() {
+    let (mut volume, mut ring) = thirteen();
+    let mut output = [0; 600];
+    assert_eq!(volume.finish(), Status::InvalidParameter);
+    assert_eq!(volume.delete(8), Status::InvalidParameter);
+    assert_eq!(volume.create(9), Status::InvalidParameter);
+    assert_eq!(volume.delete(7), Status::Success);
+    assert_eq!(volume.delete(7), Status::JournalDeleteInProgress);
+    assert_eq!(volume.create(8), Status::JournalDeleteInProgress);
+    let answer = volume.read_journal(&ring, &read_input(0), &mut output);
+    assert_eq!(answer, refused(Status::JournalDeleteInProgress));
+
+    // A post is skipped, and nothing changes.
+    let change = Change {
+        reason: 1,
+        ..Change::default()
+    };
+    let (mut usn, before) = (3, volume);
+    assert_eq!(
+        volume.post(&mut ring, &change, b"a\0", &mut usn),
+        Status::Success
+    );
+    assert_eq!((usn, volume), (3, before));
+
+    assert_eq!(volume.finish(), Status::Success);
+    let answer = volume.read_journal(&ring, &read_input(0), &mut output);
+    assert_eq!(answer, refused(Status::JournalNotActive));
+    assert_eq!(volume.finish(), Status::JournalNotActive);
+    assert_eq!(volume.create(7), Status::InvalidParameter);
+    assert_eq!(volume.create(8), Status::Success);
+    assert_eq!((volume.first, volume.last, volume.id), (1040, 1040, 8));
+}
+
+#[test]
+fn a_listed_reply() {
+    let change = Change {
+        reason: 0x100,
+        ..Change::default()
+    };
+    let mut reply = 80u64.to_le_bytes().to_vec();
+    reply.extend(lay_out(3, &change, 80, b"a\0"));
+    let mut output = vec![0; 64 + 2 * reply.len()];
+    let answer = list_reply(&reply, &mut output);
+    assert_eq!(answer.status, Status::Success);
+    assert_eq!(
+        String::from_utf8_lossy(&output[..answer.count]),
+        "next 80\n80 00000100 6100\nrecords 1\n"
+    );
+
+    let list = |reply: &[u8]| {
+        let mut output = vec![0; 64 + 2 * reply.len()];
+        let answer = list_reply(reply, &mut output);
+        assert_eq!(answer.status, Status::Success);
+        String::from_utf8_lossy(&output[..answer.count]).into_owned()
+    };
+    assert_eq!(list(&[0; 7]), "bad at 0\n");
+    assert_eq!(list(&u64::MAX.to_le_bytes()), "next -1\nrecords 0\n");
+    assert_eq!(list(&reply[..87]), "bad at 8\n");
+    assert_eq!(list(&vec![0; 65_537]), "bad at 65536\n");
+    let mut nameless = 8u64.to_le_bytes().to_vec();
+    nameless.extend(lay_out(2, &change, 8, b""));
+    assert_eq!(list(&nameless), "next 8\n8 00000100 -\nrecords 1\n");
+    let short = output.len() - 1;
+    assert_eq!(
+        list_reply(&reply, &mut output[..short]),
+        refused(Status::BufferTooSmall)
+    );
+}

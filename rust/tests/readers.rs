@@ -1,0 +1,641 @@
+//! Readers of one journal over whole lists of calls: what they are handed, when
+//! they are told that records are gone, and that they reach the journal's end.
+//!
+//! Nothing here looks into the ring. A book is kept from the calls' arguments
+//! alone, and the records that readers were handed are compared with the book,
+//! laid out anew.
+
+mod common;
+
+use common::{check, expected, lay_out, record_length, selects};
+use common::{Counts, Hex, ReadInput, Rng, GUARD, NEGATIVE};
+use lanhduxe::{Change, Status, Volume};
+
+const TEST: &str = "readers";
+const CALLS: u64 = 300_000;
+
+/// A record that was posted.
+struct Posted {
+    usn: u64,
+    change: Change,
+    name: Vec<u8>,
+}
+
+/// The history of one list, from its creation on.
+struct Book {
+    live: bool,
+    id: u64,
+    capacity: u64,
+    created: u64,
+    first: u64,
+    end: u64,
+    posted: Vec<Posted>,
+    /// How many of the posted records have been dropped, oldest first.
+    dropped: usize,
+}
+
+impl Book {
+    /// The book of a creation that finds this volume record and this length of
+    /// the lent buffer.
+    fn new(found: &Volume, lent: usize, id: u64) -> Book {
+        Book {
+            live: found.journal != 0 && lent as u64 == found.capacity,
+            id,
+            capacity: found.capacity,
+            created: found.last,
+            first: found.last,
+            end: found.last,
+            posted: Vec::new(),
+            dropped: 0,
+        }
+    }
+
+    /// Notes a post; true if the record counts as posted.
+    fn post(&mut self, change: &Change, name: &[u8]) -> bool {
+        let length = record_length(3, name.len()) as u64;
+        let accepted = name.len().is_multiple_of(2) && !name.is_empty() && name.len() <= 510;
+        if !self.live || change.reason == 0 || !accepted || self.end + length >= NEGATIVE {
+            return false;
+        }
+        self.end += length;
+        self.posted.push(Posted {
+            usn: self.end,
+            change: *change,
+            name: name.to_vec(),
+        });
+        while self.end - self.first > self.capacity {
+            self.first = self.posted[self.dropped].usn;
+            self.dropped += 1;
+        }
+        true
+    }
+
+    fn delete(&mut self, id: u64) {
+        if id == self.id {
+            self.live = false;
+        }
+    }
+
+    /// Whether a record with a Usn above a position has been dropped.
+    fn dropped_above(&self, position: u64) -> bool {
+        self.posted[..self.dropped]
+            .iter()
+            .rev()
+            .any(|record| record.usn > position)
+    }
+
+    /// The records with a Usn above a position that a filter selects.
+    fn selected_above(
+        &self,
+        position: u64,
+        mask: u32,
+        only_on_close: u32,
+    ) -> impl Iterator<Item = &Posted> {
+        let from = self.posted.partition_point(|record| record.usn <= position);
+        self.posted[from..]
+            .iter()
+            .filter(move |record| selects(mask, only_on_close, record.change.reason))
+    }
+}
+
+/// A reader with one filter.
+#[derive(Debug)]
+struct Reader {
+    start: u64,
+    mask: u32,
+    only_on_close: u32,
+    version: u16,
+    position: u64,
+    /// The records of each reply, with the reply's version.
+    replies: Vec<(u16, Vec<u8>)>,
+}
+
+impl Reader {
+    fn new(rng: &mut Rng, start: u64) -> Reader {
+        Reader {
+            start,
+            mask: common::mask(rng),
+            only_on_close: rng.pick(&[0, 0, 0, 1, 0x8000_0000]),
+            version: rng.pick(&[2, 3]),
+            position: start,
+            replies: Vec::new(),
+        }
+    }
+
+    /// Whether it has been handed exactly the selected records with a Usn above
+    /// its start and at most its position: once each, in order, byte for byte.
+    fn handed_what_is_due(&self, book: &Book) -> bool {
+        let mut due = book
+            .selected_above(self.start, self.mask, self.only_on_close)
+            .take_while(|record| record.usn <= self.position);
+        for (version, reply) in &self.replies {
+            let mut rest = &reply[..];
+            while !rest.is_empty() {
+                let Some(record) = due.next() else {
+                    return false;
+                };
+                let bytes = lay_out(*version, &record.change, record.usn, &record.name);
+                match rest.strip_prefix(&bytes[..]) {
+                    Some(behind) => rest = behind,
+                    None => return false,
+                }
+            }
+        }
+        due.next().is_none()
+    }
+}
+
+/// One list: the volume and its ring, the book and the readers.
+struct List {
+    volume: Volume,
+    ring: Vec<u8>,
+    lent: usize,
+    book: Book,
+    readers: Vec<Reader>,
+    /// Readers that were told that records are gone, and do not come back.
+    retired: Vec<Reader>,
+    names: Names,
+}
+
+/// Which names a list posts.
+#[derive(Clone, Copy)]
+enum Names {
+    Mixed,
+    Short,
+    Long,
+}
+
+/// The test's state over all lists.
+struct Run {
+    rng: Rng,
+    counts: Counts,
+    index: u64,
+    told: u64,
+    brought: u64,
+    handed: u64,
+}
+
+impl Run {
+    /// A fresh volume and its ring; sometimes the lent buffer has another length
+    /// than the capacity, or the volume does not support a journal.
+    fn volume(&mut self) -> (Volume, Vec<u8>, usize) {
+        let rng = &mut self.rng;
+        let capacity = common::capacity(rng);
+        let mut lent = capacity as usize;
+        if rng.percent(3) {
+            lent = rng.pick(&[0, lent - 8, lent + 8]);
+        }
+        let volume = Volume {
+            journal: rng.flag(3),
+            state: rng.pick(&[0, 0, 3, u32::MAX]),
+            first: rng.long(),
+            last: common::last_usn(rng),
+            capacity,
+            ..Volume::default()
+        };
+        (volume, rng.bytes(lent + GUARD), lent)
+    }
+
+    /// Begins a list with a creation that succeeds.
+    fn begin(&mut self, mut volume: Volume, ring: Vec<u8>, lent: usize) -> List {
+        let id = match self.rng.draw() {
+            id if id == volume.id => id ^ 1,
+            id => id.max(1),
+        };
+        let book = Book::new(&volume, lent, id);
+        let status = volume.create(id);
+        self.counts.add(status);
+        check(status == Status::Success, TEST, self.index, || {
+            format!("create {id} gave {status}: {volume:?}")
+        });
+        self.index += 1;
+        let names = self
+            .rng
+            .pick(&[Names::Mixed, Names::Mixed, Names::Short, Names::Long]);
+        List {
+            volume,
+            ring,
+            lent,
+            book,
+            readers: Vec::new(),
+            retired: Vec::new(),
+            names,
+        }
+    }
+
+    /// The volume record agrees with the book, as far as the book goes.
+    fn agrees(&self, list: &List) -> bool {
+        list.volume.last == list.book.end
+            && list.volume.first == list.book.first
+            && list.volume.id == list.book.id
+            && (!list.book.live || list.volume.state == 1)
+    }
+
+    /// A call on the volume record alone has ended.
+    fn after(&mut self, list: &List, before: &Volume, status: Status, call: &str) {
+        self.counts.add(status);
+        let unchanged = status == Status::Success || list.volume == *before;
+        check(self.agrees(list) && unchanged, TEST, self.index, || {
+            format!(
+                "{call} gave {status}\nbefore {before:?}\nafter {:?}",
+                list.volume
+            )
+        });
+        self.index += 1;
+    }
+
+    /// A creation that has to be refused: another one would end the list.
+    fn create(&mut self, list: &mut List) {
+        let id = match list.volume.state {
+            1 | 2 => self.rng.pick(&[0, list.book.id, 5]),
+            _ => self.rng.pick(&[0, list.book.id]),
+        };
+        let before = list.volume;
+        let status = list.volume.create(id);
+        check(status != Status::Success, TEST, self.index, || {
+            format!("create {id} was accepted: {before:?}")
+        });
+        self.after(list, &before, status, "create");
+    }
+
+    fn delete(&mut self, list: &mut List, right: bool) {
+        let id = match right {
+            true => list.book.id,
+            false => list.book.id ^ 1 << self.rng.below(64),
+        };
+        let before = list.volume;
+        let status = list.volume.delete(id);
+        list.book.delete(id);
+        self.after(list, &before, status, "delete");
+    }
+
+    fn finish(&mut self, list: &mut List) {
+        let before = list.volume;
+        let status = list.volume.finish();
+        self.after(list, &before, status, "finish");
+    }
+
+    /// A post; `good` or not, it may be one that is skipped or refused.
+    fn post(&mut self, list: &mut List, good: bool) {
+        let rng = &mut self.rng;
+        let mut change = common::change(rng);
+        let mut length = match list.names {
+            Names::Mixed => common::name_length(rng, 20),
+            Names::Short => rng.pick(&[2, 2, 2, 4, 6, 12]),
+            Names::Long => rng.pick(&[506, 508, 510, 510]),
+        };
+        if !good {
+            match rng.below(2) {
+                0 => change.reason = 0,
+                _ => length = rng.pick(&[0, 1, 511, 512]),
+            }
+        }
+        let name = rng.bytes(length);
+        let usn_before = rng.long();
+        let mut usn = usn_before;
+        let before = list.volume;
+        let status = list
+            .volume
+            .post(&mut list.ring[..list.lent], &change, &name, &mut usn);
+        self.counts.add(status);
+        let posted = list.book.post(&change, &name);
+        let right = match posted {
+            true => status == Status::Success && usn == list.book.end,
+            false => usn == usn_before && list.volume == before,
+        };
+        check(right && self.agrees(list), TEST, self.index, || {
+            format!(
+                "post gave {status}, usn {usn} (before {usn_before}), counts as posted: {posted}\n\
+                 {change:?}\nname {:?}\nbefore {before:?}\nafter {:?}",
+                Hex(&name),
+                list.volume
+            )
+        });
+        self.index += 1;
+    }
+
+    /// Makes a read and checks its frame. Gives the status and, for a success,
+    /// the position and the records' bytes.
+    fn read(&mut self, list: &List, input: &ReadInput, room: usize) -> (Status, u64, Vec<u8>) {
+        let bytes = input.bytes(&mut self.rng);
+        let before = self.rng.bytes(room + GUARD);
+        let mut output = before.clone();
+        let answer = list
+            .volume
+            .read_journal(&list.ring[..list.lent], &bytes, &mut output[..room]);
+        self.counts.add(answer.status);
+        let success = answer.status == Status::Success;
+        check(
+            success == (answer.count >= 8)
+                && (success || answer.count == 0)
+                && output[answer.count..] == before[answer.count..],
+            TEST,
+            self.index,
+            || {
+                format!(
+                    "read gave {answer:?}\n{input:?}\noutput before {:?} (lent {room})\nafter {:?}\n{:?}",
+                    Hex(&before),
+                    Hex(&output),
+                    list.volume
+                )
+            },
+        );
+        self.index += 1;
+        if !success {
+            return (answer.status, 0, Vec::new());
+        }
+        let mut position = [0; 8];
+        position.copy_from_slice(&output[..8]);
+        let records = output[8..answer.count].to_vec();
+        (answer.status, u64::from_le_bytes(position), records)
+    }
+
+    /// A read that belongs to no reader.
+    fn other_read(&mut self, list: &List) {
+        let rng = &mut self.rng;
+        let start = match rng.below(6) {
+            0 => 0,
+            1 => list.book.end,
+            2 => list.book.first,
+            3 => list.book.first.wrapping_sub(8),
+            4 => list.book.end.wrapping_add(8),
+            _ => rng.long(),
+        };
+        let input = ReadInput {
+            start,
+            mask: common::mask(rng),
+            only_on_close: rng.pick(&[0, 1]),
+            id: list.book.id,
+            lowest: rng.between(0, 3) as u16,
+            highest: rng.between(1, 4) as u16,
+            size: rng.pick(&[0, 39, 40, 47, 48, 48, 48, 60]),
+        };
+        let room = rng.pick(&[0, 7, 8, 72, 88, 600, 1000]);
+        self.read(list, &input, room);
+    }
+
+    /// The input with which a reader comes back.
+    fn input(&mut self, list: &List, reader: usize) -> ReadInput {
+        let reader = &list.readers[reader];
+        let version = match self.rng.below(5) {
+            0 => self.rng.pick(&[2, 3]),
+            _ => reader.version,
+        };
+        let size = match version {
+            2 => self.rng.pick(&[40, 47, 48, 48, 56]),
+            _ => self.rng.pick(&[48, 48, 60]),
+        };
+        ReadInput {
+            start: reader.position,
+            mask: reader.mask,
+            only_on_close: reader.only_on_close,
+            id: list.book.id,
+            lowest: self.rng.pick(&[0, 2, version]),
+            highest: version,
+            size,
+        }
+    }
+
+    /// A read by a reader, with everything that it promises.
+    fn reader_read(&mut self, list: &mut List, reader: usize, input: &ReadInput, room: usize) {
+        let (status, position, records) = self.read(list, input, room);
+        let book = &list.book;
+        let it = &mut list.readers[reader];
+        let version = input.version();
+        let well_formed =
+            book.live && input.size >= 40 && room >= 8 && version.is_some() && input.id == book.id;
+        let gone = book.dropped_above(it.position);
+        let next = book
+            .selected_above(it.position, it.mask, it.only_on_close)
+            .next();
+        let fits = next.is_none_or(|record| {
+            room >= 8 + record_length(version.unwrap_or(2), record.name.len())
+        });
+        let right = match status {
+            Status::Success => {
+                well_formed && !gone && fits && position >= it.position && position <= book.end
+            }
+            Status::JournalEntryDeleted => well_formed && gone,
+            Status::BufferTooSmall => !well_formed || !gone && !fits,
+            _ => !well_formed,
+        };
+        // The read's index was the one before.
+        check(right, TEST, self.index - 1, || {
+            format!(
+                "read gave {status}, position {position}, well-formed {well_formed}, \
+                 records gone {gone}, next record fits {fits}\n{input:?}, output of {room}\n\
+                 start {} position {} book first {} end {}\n{:?}",
+                it.start, it.position, book.first, book.end, list.volume
+            )
+        });
+        if status == Status::JournalEntryDeleted {
+            self.told += 1;
+        }
+        if status == Status::Success {
+            it.position = position;
+            it.replies.push((version.unwrap_or(2), records));
+        }
+    }
+
+    /// A reader comes back, mostly with a well-formed read.
+    fn come_back(&mut self, list: &mut List, reader: usize) {
+        let mut input = self.input(list, reader);
+        let it = &list.readers[reader];
+        let fixed = 8 + if input.highest == 2 { 60 } else { 76 };
+        let lengths: Vec<usize> = list
+            .book
+            .selected_above(it.position, it.mask, it.only_on_close)
+            .take(4)
+            .map(|record| record_length(input.highest, record.name.len()))
+            .collect();
+        let some = lengths.len().min(self.rng.below(5) as usize);
+        let sum = 8 + lengths[..some].iter().sum::<usize>();
+        let room = match self.rng.below(8) {
+            0 => self.rng.below(12) as usize,
+            1..=3 => sum + self.rng.below(3) as usize - 1,
+            4 => fixed + self.rng.below(100) as usize,
+            5 => 600,
+            _ => self.rng.between(600, 3000) as usize,
+        };
+        if self.rng.percent(8) {
+            match self.rng.below(3) {
+                0 => input.size = self.rng.below(40) as usize,
+                1 => input.id ^= 1 << self.rng.below(64),
+                _ => {
+                    (input.size, input.lowest, input.highest) =
+                        self.rng.pick(&[(48, 3, 2), (48, 4, 9), (50, 0, 1)])
+                }
+            }
+        }
+        self.reader_read(list, reader, &input, room);
+    }
+
+    /// A call that posts nothing and leaves the journal alive.
+    fn idle_call(&mut self, list: &mut List, reader: usize) {
+        match self.rng.below(6) {
+            0 => self.create(list),
+            1 => self.delete(list, false),
+            2 => self.finish(list),
+            3 => self.post(list, false),
+            4 => self.other_read(list),
+            _ => self.come_back(list, reader),
+        }
+    }
+
+    /// With no posts between, as many well-formed reads of 600 bytes or more as
+    /// there are selected records bring a reader to the journal's end.
+    fn bring_to_the_end(&mut self, list: &mut List, reader: usize) {
+        let it = &list.readers[reader];
+        if !list.book.live || list.book.dropped_above(it.position) {
+            return;
+        }
+        let due = list
+            .book
+            .selected_above(it.position, it.mask, it.only_on_close)
+            .count();
+        let busy = self.rng.percent(50);
+        for _ in 0..due.max(1) {
+            if busy && self.rng.percent(30) {
+                self.idle_call(list, reader);
+            }
+            let input = self.input(list, reader);
+            let room = 600 + self.rng.pick(&[0, 0, 0, 1, 8, 500]);
+            self.reader_read(list, reader, &input, room);
+        }
+        let it = &list.readers[reader];
+        check(it.position == list.book.end, TEST, self.index, || {
+            format!(
+                "{due} reads did not reach the end {}: start {} position {} mask {:#x} {:?}",
+                list.book.end, it.start, it.position, it.mask, list.volume
+            )
+        });
+        self.brought += 1;
+    }
+
+    /// A new reader, at the creation's position or a Usn posted so far.
+    fn new_reader(&mut self, list: &mut List) {
+        let posted = list.book.posted.len() as u64;
+        let start = match self.rng.below(4) {
+            0 => list.book.created,
+            1 => list.book.end,
+            2 if posted > 0 => list.book.first,
+            _ if posted > 0 => list.book.posted[self.rng.below(posted) as usize].usn,
+            _ => list.book.created,
+        };
+        if start != 0 {
+            let reader = Reader::new(&mut self.rng, start);
+            list.readers.push(reader);
+        }
+    }
+
+    /// Any call of a list.
+    fn call(&mut self, list: &mut List, may_end: bool) {
+        let readers = list.readers.len() as u64;
+        match self.rng.below(200) {
+            0..=1 => self.create(list),
+            2..=3 => self.delete(list, false),
+            4 if may_end => self.delete(list, true),
+            5..=6 => self.finish(list),
+            7..=16 => self.other_read(list),
+            17..=24 if readers < 6 => self.new_reader(list),
+            25..=26 if readers > 0 => {
+                let reader = self.rng.below(readers) as usize;
+                self.bring_to_the_end(list, reader);
+            }
+            27..=130 if readers > 0 => {
+                let reader = self.rng.below(readers) as usize;
+                self.come_back(list, reader);
+                let it = &list.readers[reader];
+                if list.book.dropped_above(it.position) && self.rng.percent(50) {
+                    let it = list.readers.swap_remove(reader);
+                    list.retired.push(it);
+                }
+            }
+            _ => self.post(list, true),
+        }
+    }
+
+    /// After a list: each reader has been handed what is due.
+    fn end(&mut self, list: &List) {
+        for reader in list.readers.iter().chain(&list.retired) {
+            check(
+                reader.handed_what_is_due(&list.book),
+                TEST,
+                self.index,
+                || {
+                    let replies: Vec<_> = reader
+                        .replies
+                        .iter()
+                        .map(|(version, bytes)| (version, Hex(bytes)))
+                        .collect();
+                    let due: Vec<_> = list
+                        .book
+                        .selected_above(reader.start, reader.mask, reader.only_on_close)
+                        .take_while(|record| record.usn <= reader.position)
+                        .map(|record| (record.usn, record.change, Hex(&record.name)))
+                        .collect();
+                    format!(
+                    "start {} position {} mask {:#x} only-on-close {}\nhanded {replies:?}\ndue {due:?}",
+                    reader.start, reader.position, reader.mask, reader.only_on_close
+                )
+                },
+            );
+            self.handed += list
+                .book
+                .selected_above(reader.start, reader.mask, reader.only_on_close)
+                .take_while(|record| record.usn <= reader.position)
+                .count() as u64;
+        }
+    }
+}
+
+#[test]
+fn readers_are_handed_what_was_posted() {
+    let mut run = Run {
+        rng: Rng::new(TEST),
+        counts: Counts::new(TEST),
+        index: 0,
+        told: 0,
+        brought: 0,
+        handed: 0,
+    };
+    let mut lists = 0;
+    let mut readers = 0;
+    let mut next = None;
+    while run.index < CALLS {
+        let (volume, ring, lent) = match next.take() {
+            Some(left) => left,
+            None => run.volume(),
+        };
+        let mut list = run.begin(volume, ring, lent);
+        let may_end = run.rng.percent(30);
+        let calls = run.rng.between(10, 300) + list.volume.capacity / 40;
+        for _ in 0..calls {
+            run.call(&mut list, may_end);
+        }
+        for reader in 0..list.readers.len() {
+            run.bring_to_the_end(&mut list, reader);
+        }
+        // Half of the time the next list goes on with the same volume and ring.
+        let go_on = run.rng.percent(50);
+        if go_on && list.volume.state == 1 {
+            run.delete(&mut list, true);
+        }
+        if go_on && list.volume.state == 2 {
+            run.finish(&mut list);
+        }
+        run.end(&list);
+        readers += list.readers.len() + list.retired.len();
+        lists += 1;
+        if go_on {
+            next = Some((list.volume, list.ring, list.lent));
+        }
+    }
+    println!(
+        "{TEST}: {lists} lists, {readers} readers, {} records handed out, {} times brought to the \
+         end, {} times told that records are gone",
+        run.handed, run.brought, run.told
+    );
+    assert!(run.handed > 50_000 && run.brought > 1000 && run.told > 1000);
+    run.counts.finish(&expected::JOURNAL, 200_000);
+}
