@@ -144,7 +144,7 @@ uint32_t usn_finish(usn_volume *volume);
  * the ring and no others; changes first and last of *volume, and *usn, the file's Usn, to the record's Usn, the new LastUsn.
  * Skipped, USN_SUCCESS with nothing changed: no support for the journal, no active journal, or reason 0.
  * FILE_CORRUPT_ERROR for a ring that is not sound; INVALID_PARAMETER for a name that is odd, empty or above 510 bytes;
- * DISK_FULL if LastUsn would pass 2^63 - 1.
+ * DISK_FULL if the record is longer than the capacity or LastUsn would pass 2^63 - 1.
  */
 uint32_t usn_post(usn_volume *volume, uint8_t *ring, size_t ring_size, usn_change change,
                   const uint8_t *name, size_t name_size, uint64_t *usn);
@@ -166,7 +166,7 @@ usn_answer usn_read_journal(usn_volume volume, const uint8_t *ring, size_t ring_
 
 /*
  * Gives a USN record of the file as it is now (FSCTL_READ_FILE_USN_DATA). `parent` is that of the open's own link; the name is that
- * of the first link with a short name, else of the first link that has one.
+ * of the first link with a short name; with no such link, of the first whose name is not empty; else an empty one.
  * Input: nothing, or the lowest and highest version, u16 each.
  * INVALID_DEVICE_REQUEST without support; FILE_CORRUPT_ERROR for a negative Usn or a bad link; INVALID_PARAMETER for the versions;
  * BUFFER_TOO_SMALL below 64 bytes of output (version 3: 80), then below the record's length.

@@ -1,6 +1,6 @@
 #!/usr/bin/env python3
 """Makes the calls that crates/file_cases runs, and the lines that it must print, from a model of the three controls on one file that
-is written from [MS-FSA], [MS-FSCC] and the scope and shares nothing with the crates. Run it from the top: it writes
+is written from [MS-FSA], [MS-FSCC] and the specification and shares nothing with the crates. Run it from the top: it writes
 crates/file_cases/{args,data,stdout}."""
 
 import struct

@@ -265,6 +265,9 @@ impl Status {
 
     /// The status with a number that the library gave back.
     fn of(number: u32) -> Status {
+        if number == 0 {
+            return Status::Success;
+        }
         match Status::ALL.iter().find(|status| status.number() == number) {
             Some(status) => *status,
             None => panic!("the library gave status {number:#010x}, which is not in the table"),

@@ -10,7 +10,7 @@ const STRUCTS: [(&str, &str, &str); 7] = [
     ("crates/journal_post/src/lib.rt", "Change", "usn_change"),
     ("crates/file_record/src/lib.rt", "FileRecord", "usn_file"),
     ("crates/file_links/src/lib.rt", "Link", "usn_link"),
-    ("crates/capi/src/lib.rt", "Report", "usn_answer"),
+    ("crates/call_cores/src/lib.rt", "Report", "usn_answer"),
     ("crates/capi/src/lib.rt", "RecordReport", "usn_record"),
     ("crates/capi/src/lib.rt", "WalkReport", "usn_walk"),
 ];

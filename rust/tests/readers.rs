@@ -1,8 +1,8 @@
 //! Readers of one journal over whole lists of calls: what they are handed, when
 //! they are told that records are gone, and that they reach the journal's end.
 //!
-//! Nothing here looks into the ring. A book is kept from the calls' arguments
-//! alone, and the records that readers were handed are compared with the book,
+//! Nothing here looks into the ring. A history is kept from the calls' arguments
+//! alone, and the records that readers were handed are compared with the history,
 //! laid out anew.
 
 mod common;
@@ -22,7 +22,7 @@ struct Posted {
 }
 
 /// The history of one list, from its creation on.
-struct Book {
+struct History {
     live: bool,
     id: u64,
     capacity: u64,
@@ -34,11 +34,11 @@ struct Book {
     dropped: usize,
 }
 
-impl Book {
-    /// The book of a creation that finds this volume record and this length of
+impl History {
+    /// The history of a creation that finds this volume record and this length of
     /// the lent buffer.
-    fn new(found: &Volume, lent: usize, id: u64) -> Book {
-        Book {
+    fn new(found: &Volume, lent: usize, id: u64) -> History {
+        History {
             live: found.journal != 0 && lent as u64 == found.capacity,
             id,
             capacity: found.capacity,
@@ -124,8 +124,8 @@ impl Reader {
 
     /// Whether it has been handed exactly the selected records with a Usn above
     /// its start and at most its position: once each, in order, byte for byte.
-    fn handed_what_is_due(&self, book: &Book) -> bool {
-        let mut due = book
+    fn handed_what_is_due(&self, history: &History) -> bool {
+        let mut due = history
             .selected_above(self.start, self.mask, self.only_on_close)
             .take_while(|record| record.usn <= self.position);
         for (version, reply) in &self.replies {
@@ -145,12 +145,12 @@ impl Reader {
     }
 }
 
-/// One list: the volume and its ring, the book and the readers.
+/// One list: the volume and its ring, the history and the readers.
 struct List {
     volume: Volume,
     ring: Vec<u8>,
     lent: usize,
-    book: Book,
+    history: History,
     readers: Vec<Reader>,
     /// Readers that were told that records are gone, and do not come back.
     retired: Vec<Reader>,
@@ -202,7 +202,7 @@ impl Run {
             id if id == volume.id => id ^ 1,
             id => id.max(1),
         };
-        let book = Book::new(&volume, lent, id);
+        let history = History::new(&volume, lent, id);
         let status = volume.create(id);
         self.counts.add(status);
         check(status == Status::Success, TEST, self.index, || {
@@ -216,19 +216,19 @@ impl Run {
             volume,
             ring,
             lent,
-            book,
+            history,
             readers: Vec::new(),
             retired: Vec::new(),
             names,
         }
     }
 
-    /// The volume record agrees with the book, as far as the book goes.
+    /// The volume record agrees with the history, as far as the history goes.
     fn agrees(&self, list: &List) -> bool {
-        list.volume.last == list.book.end
-            && list.volume.first == list.book.first
-            && list.volume.id == list.book.id
-            && (!list.book.live || list.volume.state == 1)
+        list.volume.last == list.history.end
+            && list.volume.first == list.history.first
+            && list.volume.id == list.history.id
+            && (!list.history.live || list.volume.state == 1)
     }
 
     /// A call on the volume record alone has ended.
@@ -247,8 +247,8 @@ impl Run {
     /// A creation that has to be refused: another one would end the list.
     fn create(&mut self, list: &mut List) {
         let id = match list.volume.state {
-            1 | 2 => self.rng.pick(&[0, list.book.id, 5]),
-            _ => self.rng.pick(&[0, list.book.id]),
+            1 | 2 => self.rng.pick(&[0, list.history.id, 5]),
+            _ => self.rng.pick(&[0, list.history.id]),
         };
         let before = list.volume;
         let status = list.volume.create(id);
@@ -260,12 +260,12 @@ impl Run {
 
     fn delete(&mut self, list: &mut List, right: bool) {
         let id = match right {
-            true => list.book.id,
-            false => list.book.id ^ 1 << self.rng.below(64),
+            true => list.history.id,
+            false => list.history.id ^ 1 << self.rng.below(64),
         };
         let before = list.volume;
         let status = list.volume.delete(id);
-        list.book.delete(id);
+        list.history.delete(id);
         self.after(list, &before, status, "delete");
     }
 
@@ -298,9 +298,9 @@ impl Run {
             .volume
             .post(&mut list.ring[..list.lent], &change, &name, &mut usn);
         self.counts.add(status);
-        let posted = list.book.post(&change, &name);
+        let posted = list.history.post(&change, &name);
         let right = match posted {
-            true => status == Status::Success && usn == list.book.end,
+            true => status == Status::Success && usn == list.history.end,
             false => usn == usn_before && list.volume == before,
         };
         check(right && self.agrees(list), TEST, self.index, || {
@@ -355,17 +355,17 @@ impl Run {
         let rng = &mut self.rng;
         let start = match rng.below(6) {
             0 => 0,
-            1 => list.book.end,
-            2 => list.book.first,
-            3 => list.book.first.wrapping_sub(8),
-            4 => list.book.end.wrapping_add(8),
+            1 => list.history.end,
+            2 => list.history.first,
+            3 => list.history.first.wrapping_sub(8),
+            4 => list.history.end.wrapping_add(8),
             _ => rng.long(),
         };
         let input = ReadInput {
             start,
             mask: common::mask(rng),
             only_on_close: rng.pick(&[0, 1]),
-            id: list.book.id,
+            id: list.history.id,
             lowest: rng.between(0, 3) as u16,
             highest: rng.between(1, 4) as u16,
             size: rng.pick(&[0, 39, 40, 47, 48, 48, 48, 60]),
@@ -389,7 +389,7 @@ impl Run {
             start: reader.position,
             mask: reader.mask,
             only_on_close: reader.only_on_close,
-            id: list.book.id,
+            id: list.history.id,
             lowest: self.rng.pick(&[0, 2, version]),
             highest: version,
             size,
@@ -399,13 +399,13 @@ impl Run {
     /// A read by a reader, with everything that it promises.
     fn reader_read(&mut self, list: &mut List, reader: usize, input: &ReadInput, room: usize) {
         let (status, position, records) = self.read(list, input, room);
-        let book = &list.book;
+        let history = &list.history;
         let it = &mut list.readers[reader];
         let version = input.version();
         let well_formed =
-            book.live && input.size >= 40 && room >= 8 && version.is_some() && input.id == book.id;
-        let gone = book.dropped_above(it.position);
-        let next = book
+            history.live && input.size >= 40 && room >= 8 && version.is_some() && input.id == history.id;
+        let gone = history.dropped_above(it.position);
+        let next = history
             .selected_above(it.position, it.mask, it.only_on_close)
             .next();
         let fits = next.is_none_or(|record| {
@@ -413,7 +413,7 @@ impl Run {
         });
         let right = match status {
             Status::Success => {
-                well_formed && !gone && fits && position >= it.position && position <= book.end
+                well_formed && !gone && fits && position >= it.position && position <= history.end
             }
             Status::JournalEntryDeleted => well_formed && gone,
             Status::BufferTooSmall => !well_formed || !gone && !fits,
@@ -424,8 +424,8 @@ impl Run {
             format!(
                 "read gave {status}, position {position}, well-formed {well_formed}, \
                  records gone {gone}, next record fits {fits}\n{input:?}, output of {room}\n\
-                 start {} position {} book first {} end {}\n{:?}",
-                it.start, it.position, book.first, book.end, list.volume
+                 start {} position {} history first {} end {}\n{:?}",
+                it.start, it.position, history.first, history.end, list.volume
             )
         });
         if status == Status::JournalEntryDeleted {
@@ -443,7 +443,7 @@ impl Run {
         let it = &list.readers[reader];
         let fixed = 8 + if input.highest == 2 { 60 } else { 76 };
         let lengths: Vec<usize> = list
-            .book
+            .history
             .selected_above(it.position, it.mask, it.only_on_close)
             .take(4)
             .map(|record| record_length(input.highest, record.name.len()))
@@ -486,11 +486,11 @@ impl Run {
     /// there are selected records bring a reader to the journal's end.
     fn bring_to_the_end(&mut self, list: &mut List, reader: usize) {
         let it = &list.readers[reader];
-        if !list.book.live || list.book.dropped_above(it.position) {
+        if !list.history.live || list.history.dropped_above(it.position) {
             return;
         }
         let due = list
-            .book
+            .history
             .selected_above(it.position, it.mask, it.only_on_close)
             .count();
         let busy = self.rng.percent(50);
@@ -503,10 +503,10 @@ impl Run {
             self.reader_read(list, reader, &input, room);
         }
         let it = &list.readers[reader];
-        check(it.position == list.book.end, TEST, self.index, || {
+        check(it.position == list.history.end, TEST, self.index, || {
             format!(
                 "{due} reads did not reach the end {}: start {} position {} mask {:#x} {:?}",
-                list.book.end, it.start, it.position, it.mask, list.volume
+                list.history.end, it.start, it.position, it.mask, list.volume
             )
         });
         self.brought += 1;
@@ -514,13 +514,13 @@ impl Run {
 
     /// A new reader, at the creation's position or a Usn posted so far.
     fn new_reader(&mut self, list: &mut List) {
-        let posted = list.book.posted.len() as u64;
+        let posted = list.history.posted.len() as u64;
         let start = match self.rng.below(4) {
-            0 => list.book.created,
-            1 => list.book.end,
-            2 if posted > 0 => list.book.first,
-            _ if posted > 0 => list.book.posted[self.rng.below(posted) as usize].usn,
-            _ => list.book.created,
+            0 => list.history.created,
+            1 => list.history.end,
+            2 if posted > 0 => list.history.first,
+            _ if posted > 0 => list.history.posted[self.rng.below(posted) as usize].usn,
+            _ => list.history.created,
         };
         if start != 0 {
             let reader = Reader::new(&mut self.rng, start);
@@ -546,7 +546,7 @@ impl Run {
                 let reader = self.rng.below(readers) as usize;
                 self.come_back(list, reader);
                 let it = &list.readers[reader];
-                if list.book.dropped_above(it.position) && self.rng.percent(50) {
+                if list.history.dropped_above(it.position) && self.rng.percent(50) {
                     let it = list.readers.swap_remove(reader);
                     list.retired.push(it);
                 }
@@ -559,7 +559,7 @@ impl Run {
     fn end(&mut self, list: &List) {
         for reader in list.readers.iter().chain(&list.retired) {
             check(
-                reader.handed_what_is_due(&list.book),
+                reader.handed_what_is_due(&list.history),
                 TEST,
                 self.index,
                 || {
@@ -569,7 +569,7 @@ impl Run {
                         .map(|(version, bytes)| (version, Hex(bytes)))
                         .collect();
                     let due: Vec<_> = list
-                        .book
+                        .history
                         .selected_above(reader.start, reader.mask, reader.only_on_close)
                         .take_while(|record| record.usn <= reader.position)
                         .map(|record| (record.usn, record.change, Hex(&record.name)))
@@ -581,7 +581,7 @@ impl Run {
                 },
             );
             self.handed += list
-                .book
+                .history
                 .selected_above(reader.start, reader.mask, reader.only_on_close)
                 .take_while(|record| record.usn <= reader.position)
                 .count() as u64;

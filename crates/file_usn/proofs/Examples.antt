@@ -12,7 +12,7 @@ use Rattle.usn_record.specs.declared.Version.the-variants.{V2}
 use Rattle.usn_record.specs.Layout.{layout}
 use Rattle.file_record.specs.declared.FileRecord.{FileRecord}
 use Rattle.file_links.specs.Links.{nameAt, linksOf, goodLinks, goodTable, firstOf, chosenLink}
-use Rattle.file_usn.specs.FileUsn.{fileCheck, fileFields, fileAnswer, fileReply}
+use Rattle.file_usn.specs.FileUsn.{fileCheck, fileFields, fileAnswer, namedReply, fileReply}
 
 abbrev pub disk : Volume
 disk = record { usn = 1; regions = 0; reparse = 0; points = 0; journal = 0; state = 0; id = 0; first = 0; last = 0; capacity = 0 }
@@ -32,8 +32,8 @@ examples =
 
 -- a file with parent 7 and no links, read with no input
 abbrev replyIn : ℕ → Reply
-replyIn room = fileReply disk file 7 (goodTable [] [] [] []) (nameAt [] (chosenLink (linksOf [] [] []))) [] room
+replyIn room = fileReply disk file 7 [] [] [] room
 
 pub no-links-right : map (λ (e : Example). record { room = e .room; reply = replyIn (e .room); count = answer (replyIn (e .room)) .count }) examples ≡ examples
-unfolding le encode layout linksOf goodLinks goodTable firstOf fileCheck fileAnswer fileReply
+unfolding le encode layout linksOf goodLinks goodTable firstOf fileCheck fileAnswer namedReply
 no-links-right = refl

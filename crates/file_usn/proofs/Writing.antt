@@ -24,7 +24,7 @@ use Rattle.file_record.specs.declared.FileRecord.{FileRecord}
 use Rattle.file_links.specs.declared.Link.{Link}
 use Rattle.file_links.specs.Links.{nameAt, goodLink}
 use Rattle.file_links.proofs.Tables.{link-named}
-use Rattle.file_usn.specs.FileUsn.{fileVersion, fileCheck, fileFields, fileAnswer, fileReply}
+use Rattle.file_usn.specs.FileUsn.{fileVersion, fileCheck, fileFields, fileAnswer, namedReply}
 use Rattle.usn_record.proofs.Versions.{told-refuse}
 use Rattle.file_usn.proofs.Judging.{file-passed}
 
@@ -52,13 +52,13 @@ module _ (v : Volume) (f : FileRecord) (parent : ℕ) (input o : List ℕ) (r : 
     checked = fileCheck v f table input (length o)
 
     abbrev Replies : List ℕ → Type 0
-    Replies out = Replied (fileReply v f parent table name input (length o)) r o out
+    Replies out = Replied (namedReply v f parent table name input (length o)) r o out
 
     abbrev written : Version → Reply
     written w = fileAnswer w f parent name (length o)
 
-    guarded : (k : Option Status) → checked ≡ k → fileReply v f parent table name input (length o) ≡ guard k (written (fileVersion input))
-    unfolding fileReply
+    guarded : (k : Option Status) → checked ≡ k → namedReply v f parent table name input (length o) ≡ guard k (written (fileVersion input))
+    unfolding namedReply
     guarded k e = ap (λ (x : Option Status). guard x (written (fileVersion input))) e
 
     pub file-refused : (x : Status) → Refuse x ≡ chosen checked (fileVersion input) → r ≡ answer (refuse x) → Replies o
@@ -71,11 +71,11 @@ module _ (v : Volume) (f : FileRecord) (parent : ℕ) (input o : List ℕ) (r : 
         subst (λ (y : Reply). Replied y r o out) (ap written (k .3) ∙ sym (guarded none (k .2))) p
 
   -- with a bad table the name does not count
-  name-unread : (name other : List ℕ) → fileReply v f parent false name input (length o) ≡ fileReply v f parent false other input (length o)
-  unfolding fileReply fileCheck
+  name-unread : (name other : List ℕ) → namedReply v f parent false name input (length o) ≡ namedReply v f parent false other input (length o)
+  unfolding namedReply fileCheck
   name-unread name other = go (supported (v .usn)) refl
     where
-      go : (b : Bool) → supported (v .usn) ≡ b → fileReply v f parent false name input (length o) ≡ fileReply v f parent false other input (length o)
+      go : (b : Bool) → supported (v .usn) ≡ b → namedReply v f parent false name input (length o) ≡ namedReply v f parent false other input (length o)
       go true e = rw (e, and-false (ltb (f .usn) (2 ^ 63)))
       go false e = rw e
 
@@ -83,10 +83,10 @@ module _ (v : Volume) (f : FileRecord) (parent : ℕ) (input o : List ℕ) (r : 
     pub table-bad : (name other : List ℕ) → not t ≡ true → Replies false name out → Replies table other out
     table-bad name other e p =
         let k : false ≡ table = sym (not-true t e) ∙ a in
-        let same = name-unread name other ∙ ap (λ (b : Bool). fileReply v f parent b other input (length o)) k in
+        let same = name-unread name other ∙ ap (λ (b : Bool). namedReply v f parent b other input (length o)) k in
         subst (λ (y : Reply). Replied y r o out) same p
 
     pub table-good : (pool : List ℕ) (l m : Link) → not t ≡ false → l ≡ m → Replies true (nameAt pool l) out → Replies table (nameAt pool m) out
     table-good pool l m e h p =
         let k : true ≡ table = sym (not-false t e) ∙ a in
-        subst (λ (y : Reply). Replied y r o out) (ap₂ (λ (b : Bool) (x : Link). fileReply v f parent b (nameAt pool x) input (length o)) k h) p
+        subst (λ (y : Reply). Replied y r o out) (ap₂ (λ (b : Bool) (x : Link). namedReply v f parent b (nameAt pool x) input (length o)) k h) p

@@ -16,6 +16,8 @@ use Rattle.usn_record.specs.declared.Fields.{Fields}
 use Rattle.usn_record.specs.Version.{versionsIn, versionIn}
 use Rattle.usn_record.specs.Layout.{nameOffset, recordLength, layout}
 use Rattle.file_record.specs.declared.FileRecord.{FileRecord}
+use Rattle.file_links.specs.declared.Link.{Link}
+use Rattle.file_links.specs.Links.{nameAt, goodLinks, chosenLink, linksOf, goodTable}
 
 -- an input shorter than 4 bytes is ignored, and the version is 2; else Min and Max
 abbrev pub fileVersions : List ℕ → Option Status
@@ -50,7 +52,15 @@ unfoldable pub fileAnswer : Version → FileRecord → ℕ → List ℕ → ℕ 
 fileAnswer v f parent name room =
     guard (unless (leb (recordLength v (length name)) room) BufferTooSmall) (give Success (layout v (fileFields f parent) name))
 
--- the reply of the whole control, with `room` bytes of output: `table` says whether the table of links is right, and `name` is that
--- of the chosen link
-unfoldable pub fileReply : Volume → FileRecord → ℕ → Bool → List ℕ → List ℕ → ℕ → Reply
-fileReply v f parent table name input room = guard (fileCheck v f table input room) (fileAnswer (fileVersion input) f parent name room)
+-- the reply with `room` bytes of output, where `table` says whether the table of links is right and `name` is that of the chosen link
+unfoldable pub namedReply : Volume → FileRecord → ℕ → Bool → List ℕ → List ℕ → ℕ → Reply
+namedReply v f parent table name input room = guard (fileCheck v f table input room) (fileAnswer (fileVersion input) f parent name room)
+
+-- the reply of the whole control to a file with these links
+abbrev pub fileReply : Volume → FileRecord → ℕ → List ℕ → List Link → List ℕ → ℕ → Reply
+fileReply v f parent pool links input room = namedReply v f parent (goodLinks pool links) (nameAt pool (chosenLink links)) input room
+
+-- the same where the links are lent as three runs of numbers, which may be of different lengths
+abbrev pub tableReply : Volume → FileRecord → ℕ → List ℕ → List ℕ → List ℕ → List ℕ → List ℕ → ℕ → Reply
+tableReply v f parent pool places lengths shorts input room =
+    namedReply v f parent (goodTable pool places lengths shorts) (nameAt pool (chosenLink (linksOf places lengths shorts))) input room

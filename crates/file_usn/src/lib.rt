@@ -5,8 +5,8 @@ ghost use Prim.Native.Nat.{ℕ, _<_, _^_};
 ghost use lib.ListN.{length};
 ghost use Rattle.status.specs.Reply.{Replied};
 ghost use Rattle.usn_record.specs.Version.{chosen};
-ghost use Rattle.file_links.specs.Links.{nameAt, goodLink, chosenLink, linksOf, goodTable};
-ghost use Rattle.file_usn.specs.FileUsn.{fileVersion, fileCheck, fileFields, fileAnswer, fileReply};
+ghost use Rattle.file_links.specs.Links.{nameAt, goodLink};
+ghost use Rattle.file_usn.specs.FileUsn.{fileVersion, fileCheck, fileFields, fileAnswer, namedReply, tableReply};
 use file_links::Link;
 use file_links::choose_link;
 use file_links::good_table;
@@ -85,7 +85,7 @@ pub fn read_chosen(
     output: &mut [u8],
 ) -> Answer
     requires { ⌜ (table ≡ true → goodLink (now pool) link ≡ true) ⌝ }
-    ensures { λ r. ⌜ Replied (fileReply v f parent table (nameAt (now (pool .entry)) link) (now (input .entry)) (length (now (output .entry)))) r (now (output .entry)) (now (output .exit)) ⌝ }
+    ensures { λ r. ⌜ Replied (namedReply v f parent table (nameAt (now (pool .entry)) link) (now (input .entry)) (length (now (output .entry)))) r (now (output .entry)) (now (output .exit)) ⌝ }
 {
     let choice = judge_file(v, f, table, input, output.len());
     match choice {
@@ -107,7 +107,7 @@ pub fn read_file_usn(
     input: &[u8],
     output: &mut [u8],
 ) -> Answer
-    ensures { λ r. ⌜ Replied (fileReply v f parent (goodTable (now (pool .entry)) (now (places .entry)) (now (lengths .entry)) (now (shorts .entry))) (nameAt (now (pool .entry)) (chosenLink (linksOf (now (places .entry)) (now (lengths .entry)) (now (shorts .entry))))) (now (input .entry)) (length (now (output .entry)))) r (now (output .entry)) (now (output .exit)) ⌝ }
+    ensures { λ r. ⌜ Replied (tableReply v f parent (now (pool .entry)) (now (places .entry)) (now (lengths .entry)) (now (shorts .entry)) (now (input .entry)) (length (now (output .entry)))) r (now (output .entry)) (now (output .exit)) ⌝ }
 {
     if !good_table(pool, places, lengths, shorts) {
         return read_chosen(v, f, parent, pool, false, no_link(), input, output);

@@ -2,20 +2,22 @@
 -- Assumes nothing.
 use mathlib.Core.Path.{_≡_, refl, sym, ap, ap₂, _∙_, subst₂}
 use mathlib.Core.Logic.{_⊎_, inl, inr}
-use mathlib.Core.Bool.{and-false, Bool, true, false, cond, _&&_}
+use mathlib.Core.Bool.{and-false, Bool, true, false, not, cond, _&&_, _||_}
 use mathlib.Core.Option.{none, some}
 use mathlib.Core.List.{List, [], _∷_, _++_, List·Memᴰ, List·Memᴰ·head, List·Memᴰ·tail, List·Memᴰ·not-nil, List·Memᴰ·cases-cons, append-assoc}
-use Prim.Native.Nat.{ℕ, _-_, _≤_, _<_}
+use Prim.Native.Nat.{ℕ, _-_, _^_, _≤_, _<_}
 use native.Mathlib.Omega.{arith}
-use lib.Dec.{ltb, eqb}
+use lib.Bits.{bitAnd}
+use lib.Dec.{leb, ltb, eqb}
 use lib.ListN.{length}
 use borrow.Author.Tests.{ltb-true, ltb-false, eqb-true, lt-ltb, le-ltb, le-leb, lt-leb, eq-eqb, ne-eqb}
 use Rattle.usn_record.specs.declared.Version.{Version}
 use Rattle.usn_record.specs.Layout.{Record, lengthOf}
 use Rattle.journal.specs.Edge.{behind}
 use Rattle.journal_page.specs.declared.Filter.{Filter}
-use Rattle.journal_page.specs.Select.{selects}
+use Rattle.journal_page.specs.Select.{wanted, selects}
 use Rattle.journal_page.specs.Page.{inVersion, fits, Page, turn, pageOf, empty}
+use Rattle.history.specs.Reading.{Alike}
 use Rattle.history.specs.Demand.{keep, filter, between, above}
 use Rattle.history.proofs.Links.{Chain, chain-le, link-rises, link-short}
 
@@ -263,3 +265,18 @@ first-fits v f room p (r ∷ rs) e h k =
         && empty (turn b true r p (pageOf v f room (r .fields .usn) rs) (pageOf v f (room - lengthOf (inVersion v r)) (r .fields .usn) rs) .given) ≡ false
     go true ih = and-false (pageOf v f (room - lengthOf (inVersion v r)) (r .fields .usn) rs .cut)
     go false ih = ih
+
+-- filters with one mask, both or neither for closes only, want the same
+wanted-alike : (f g : Filter) → Alike f g → (reason : ℕ) → wanted f reason ≡ wanted g reason
+unfolding wanted
+wanted-alike f g a reason = ap₂ (λ (m : ℕ) (x : Bool). not (eqb (bitAnd reason m) 0) && (x || leb (2 ^ 31) reason)) (a .0) (a .1)
+
+-- so that they give the same page
+pub page-alike : (v : Version) (f g : Filter) → Alike f g → (room p : ℕ) (l : List Record) → pageOf v f room p l ≡ pageOf v g room p l
+unfolding pageOf
+page-alike v f g a room p [] = refl
+page-alike v f g a room p (r ∷ rs) =
+    ap (λ (x : Bool). turn x (fits v room r) r p (pageOf v f room (r .fields .usn) rs) (pageOf v f (room - lengthOf (inVersion v r)) (r .fields .usn) rs))
+    (wanted-alike f g a (r .fields .reason))
+    ∙ ap₂ (λ (x y : Page). turn (selects g r) (fits v room r) r p x y) (page-alike v f g a room (r .fields .usn) rs)
+    (page-alike v f g a (room - lengthOf (inVersion v r)) (r .fields .usn) rs)

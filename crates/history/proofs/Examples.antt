@@ -173,9 +173,9 @@ reader n m =
 pub reaches-end : follow (journalAfter 2) (fresh 80 all) (mine (asks 80 600) ∷ []) .position ≡ 160
 unfolding opened isPosted shed added notePost postedName goodName le unle numberAt argumentCheck wellFormed wanted above
 reaches-end =
-    reader 2 (List·Memᴰ·head refl) .progress (λ d. List·Memᴰ·not-nil (d .1)) (mine (asks 80 600) ∷ []) (tt, tt) (tt, tt) ((refl, refl), tt) refl (omega arith)
+    reader 2 (List·Memᴰ·head refl) .progress (λ d. List·Memᴰ·not-nil (d .1)) (mine (asks 80 600) ∷ []) (tt, tt) (tt, tt) ((refl, (refl, refl)), tt) refl (omega arith)
 
 -- after fourteen the record behind it has been dropped, and it is told so
-pub told-deleted : replyTo (journalAfter 14) (asks 80 600) ≡ refuse JournalEntryDeleted
+pub told-deleted : outcome (journalAfter 14) (read (asks 80 600)) .status ≡ JournalEntryDeleted
 unfolding opened isPosted shed added notePost postedName goodName le unle numberAt argumentCheck wellFormed
-told-deleted = reader 14 (List·Memᴰ·head refl) .deleted (asks 80 600) (refl, refl) refl .1 (recordOf change name 160, List·Memᴰ·tail (List·Memᴰ·head refl), omega arith)
+told-deleted = reader 14 (List·Memᴰ·head refl) .deleted (asks 80 600) (refl, (refl, refl)) refl .1 (recordOf change name 160, List·Memᴰ·tail (List·Memᴰ·head refl), omega arith)

@@ -27,18 +27,17 @@ use Rattle.usn_record.specs.Layout.{Record}
 use Rattle.reply_walker.specs.Reply.{positionOf, joined, records}
 use Rattle.journal.specs.Kept.{keptBytes, inChain, goodMarks, sound, kept}
 use Rattle.journal.specs.Edge.{behind}
-use Rattle.journal_page.specs.declared.Filter.{Filter}
 use Rattle.journal_read.specs.Input.{filterOf, versionOf, argumentCheck}
 use Rattle.journal_page.specs.Select.{selects}
 use Rattle.journal_page.specs.Page.{inVersion, Page, pageOf, empty, pageBytes, pageReply}
 use Rattle.journal_read.specs.Read.{isDeleted, origin, deletedCheck, answerFrom, readAnswer, readCheck, readReply}
-use Rattle.history.specs.Calls.{Read, Journal, replyTo, next, Typed, AllTyped}
+use Rattle.history.specs.Calls.{Read, read, Journal, replyTo, outcome, next, Typed, AllTyped}
 use Rattle.history.specs.Log.{History, posted, note, notes}
 use Rattle.history.specs.Reading.{Sheet, Reader, moved, told, Turn, mine, other, callOf, hears, follow, Carries, Own, Chosen, Hold}
-use Rattle.history.specs.Demand.{filter, between, Refuses, NoCreation, DroppedAbove, isNone, wellFormed}
+use Rattle.history.specs.Demand.{filter, between, CreatesNone, NoCreation, DroppedAbove, isNone, wellFormed}
 use Rattle.history.proofs.Links.{Chain, chain-le, chain-append}
 use Rattle.history.proofs.Sim.{Live, usable, Sim, Grow}
-use Rattle.history.proofs.Chains.{filter-append, between-append, between-high, between-all, between-top, behind-drop, behind-edge, behind-append, Edge, edge, mem-range, some-above, Split, split}
+use Rattle.history.proofs.Chains.{filter-append, between-append, between-high, between-all, between-top, behind-drop, behind-edge, behind-append, Edge, edge, mem-range, some-above, Split, split, page-alike}
 use Rattle.history.proofs.Simulate.{kept-live, sound-live, sim-step}
 
 pub clash : {A : Type 0} → _≡_ {A = ℕ} 0 1 → A
@@ -204,25 +203,23 @@ module _ (j : Journal) (h : History) (m : Sim j h) (d : Reader) (t : Stand h d) 
   told-reply k =
       answered
       ∙ ap (λ (x : Bool). by-marks x (h .first) p) (le-ltb p (h .first) k)
-      ∙ ap₂ (λ (f : Filter) (o : Option (List Record)). answerFrom (versionOf (a .input)) f (a .room - 8) p o) (c .1)
+      ∙ ap (answerFrom (versionOf (a .input)) (filterOf (a .input)) (a .room - 8) p)
       (sym (behind-drop (h .base) (h .dropped) (h .first) p (h .left) (m .gone) k) ∙ t .edge)
+      ∙ ap (pageReply (versionOf (a .input))) (page-alike (versionOf (a .input)) (filterOf (a .input)) (d .filter) (c .1) (a .room - 8) p (t .rest))
 
 -- ---- the clause on deleted entries
 
-abbrev code : Reply → ℕ
-code (refuse x) = number x
-code (give x bytes) = 0
-
-reply-refused : (v : Version) (page : Page) → pageReply v page ≡ refuse JournalEntryDeleted → ⊥
+-- a page's reply says SUCCESS or BUFFER_TOO_SMALL, never that entries are deleted
+page-told : (v : Version) (page : Page) → answer (pageReply v page) .status ≡ JournalEntryDeleted → ⊥
 unfolding pageReply
-reply-refused v page h = go (page .cut && empty (page .given)) (ap code h)
+page-told v page h = go (page .cut && empty (page .given)) (ap number h)
   where
-    go : (x : Bool) → code (cond x (refuse BufferTooSmall) (give Success (le 8 (page .position) ++ pageBytes v page))) ≡ 0xC00002CF → ⊥
+    go : (x : Bool) → number (answer (cond x (refuse BufferTooSmall) (give Success (le 8 (page .position) ++ pageBytes v page))) .status) ≡ 0xC00002CF → ⊥
     go true k = omega arith
     go false k = omega arith
 
 pub deleted-iff : (j : Journal) (h : History) (d : Reader) → Sim j h → Stand h d → (a : Read) → Carries d a → wellFormed h a ≡ true
-    → (replyTo j a ≡ refuse JournalEntryDeleted) ↔ DroppedAbove h (d .position)
+    → (outcome j (read a) .status ≡ JournalEntryDeleted) ↔ DroppedAbove h (d .position)
 unfolding wellFormed
 deleted-iff j h d m t a c w = (there, back)
   where
@@ -232,19 +229,21 @@ deleted-iff j h d m t a c w = (there, back)
     ok : argumentCheck (h .id) (a .input) (a .room) ≡ none
     ok = none-is (argumentCheck (h .id) (a .input) (a .room)) (and-right (h .live) (isNone (argumentCheck (h .id) (a .input) (a .room))) w)
 
-    there : replyTo j a ≡ refuse JournalEntryDeleted → DroppedAbove h (d .position)
+    status : Reply → Status
+    status r = answer r .status
+
+    there : outcome j (read a) .status ≡ JournalEntryDeleted → DroppedAbove h (d .position)
     there k = by (ltb (d .position) (h .first)) refl
       where
         by : (x : Bool) → ltb (d .position) (h .first) ≡ x → DroppedAbove h (d .position)
         by true q =
             let s = some-above (h .base) (h .dropped) (h .first) (d .position) (m .gone) (base-low j h m d t a c v ok) (ltb-true _ _ q) in
             (s .0, s .1, omega (arith, s .2))
-        by false q = absurd (reply-refused _ _ (sym (told-reply j h m d t a c v ok (ltb-false _ _ q)) ∙ k))
+        by false q = absurd (page-told _ _ (ap status (sym (told-reply j h m d t a c v ok (ltb-false _ _ q))) ∙ k))
 
-    back : DroppedAbove h (d .position) → replyTo j a ≡ refuse JournalEntryDeleted
+    back : DroppedAbove h (d .position) → outcome j (read a) .status ≡ JournalEntryDeleted
     back r =
-        told-deleted j h m d t a c v ok
-        (omega (arith, mem-range (h .base) (h .dropped) (h .first) (r .0) (m .gone) (r .1) .1, r .2))
+        ap status (told-deleted j h m d t a c v ok (omega (arith, mem-range (h .base) (h .dropped) (h .first) (r .0) (m .gone) (r .1) .1, r .2)))
 
 -- ---- a reply
 
@@ -420,7 +419,7 @@ refusal a d (give x bytes) n = go (eqb (number x) 0) refl
     go false e = refl
 
 -- one call of the list
-pub stand-step : (j : Journal) (h : History) (d : Reader) → Sim j h → Stand h d → (u : Turn) → Typed (callOf u) → Refuses j (callOf u) → Own d u
+pub stand-step : (j : Journal) (h : History) (d : Reader) → Sim j h → Stand h d → (u : Turn) → Typed (callOf u) → CreatesNone j (callOf u) → Own d u
     → Stand (note h (callOf u)) (hears j d u)
 stand-step j h d m t (mine a) y n o = by (replyTo j a) refl
   where

@@ -33,7 +33,7 @@ use Rattle.journal_post.specs.declared.Verdict.the-variants.{Skip, Reject, Acce
 use Rattle.journal_post.specs.Post.{skipped, postedName, endOf, postCheck, checked, verdict, leaves, recordOf, postedVolume, postedRing}
 use Rattle.history.specs.Calls.{Call, create, post, read, delete, finish, Journal, outcome, next, runs, Widths, Typed, AllTyped}
 use Rattle.history.specs.Log.{History, posted, opened, endWith, isPosted, Shed, shed, shedTo, added, closed, notePost, noteDelete, note, notes}
-use Rattle.history.specs.Demand.{Refuses, NoCreation}
+use Rattle.history.specs.Demand.{CreatesNone, NoCreation}
 use Rattle.history.proofs.Links.{Link, Chain, chain-le, chain-append, chain-eight}
 use Rattle.history.proofs.Sim.{Live, usable, Sim, Grow}
 use Rattle.history.proofs.Posting.{chain-sound, chain-chained, Cut, cut, snoc, shed-snoc, shed-oldest, length-posted, posted-bytes}
@@ -446,7 +446,7 @@ module _ (j : Journal) (h : History) (m : Sim j h) where
       go none = (dead-sim j (with (inState (j .volume) 0) (j .ring)) h m v gone-idle, grow-same h)
       go (some x) = stay
 
-  pub sim-step : (c : Call) → Typed c → Refuses j c → Sim (next j c) (note h c) × Grow h (note h c)
+  pub sim-step : (c : Call) → Typed c → CreatesNone j c → Sim (next j c) (note h c) × Grow h (note h c)
   sim-step (create id) t r =
       subst (λ (x : Volume). Next (with x (j .ring)) h) (sym (refused-volume (createCheck (j .volume) id) (j .volume) (created (j .volume) id) r)) stay
   sim-step (post c name) t r = by (h .live) refl

@@ -60,7 +60,7 @@ enough b n room h k = omega (arith, leb-true n room (and-right b (leb n room) h)
 
 -- a well-formed read with room enough is answered, where nothing above its position was dropped
 answered : (j : Journal) (h : History) (d : Reader) → Sim j h → Stand h d → h .first ≤ d .position
-    → (a : Read) → Carries d a → counts h d (mine a) ≡ true
+    → (a : Read) → Carries d a → counts h (mine a) ≡ true
     → (bytes : List ℕ) × (replyTo j a ≡ give Success bytes)
 unfolding wellFormed
 answered j h d m t low a k w = (_, told-reply j h m d t a k live ok low ∙ reply-full (versionOf (a .input)) _ fit)
@@ -115,15 +115,15 @@ module _ (j : Journal) (h : History) (d : Reader) (m : Sim j h) (t : Stand h d) 
           inr (omega (arith, v .sum, one-le x, e .0, e .1, s .0, s .1), omega (arith, v .sum, one-le x, e .0, e .1, s .0, s .1))
 
   -- one of the reader's own reads
-  soon-mine : (a : Read) → Carries d a → (k : ℕ) → Soon h d (one (counts h d (mine a)) + k) → Soon h (told a (replyTo j a) d) k
-  soon-mine a c k s = go (replyTo j a) refl (counts h d (mine a)) refl s
+  soon-mine : (a : Read) → Carries d a → (k : ℕ) → Soon h d (one (counts h (mine a)) + k) → Soon h (told a (replyTo j a) d) k
+  soon-mine a c k s = go (replyTo j a) refl (counts h (mine a)) refl s
     where
       same : (x : Bool) → (x ≡ true → ⊥) → Soon h d (one x + k) → Soon h d k
       same true n s = absurd (n refl)
       same false n (inl s) = inl s
       same false n (inr s) = inr (omega arith, omega arith)
 
-      go : (r : Reply) → replyTo j a ≡ r → (x : Bool) → counts h d (mine a) ≡ x → Soon h d (one x + k) → Soon h (told a r d) k
+      go : (r : Reply) → replyTo j a ≡ r → (x : Bool) → counts h (mine a) ≡ x → Soon h d (one x + k) → Soon h (told a r d) k
       go (refuse i) e x q s =
           same x (λ z. let w = answered j h d m t low a c (q ∙ z) in refuse-give i Success (w .0) (sym e ∙ w .1)) s
       go (give i bytes) e x q s =
@@ -156,13 +156,13 @@ module _ (j : Journal) (h : History) (d : Reader) (m : Sim j h) (t : Stand h d) 
 
 progress : (us : List Turn) (j : Journal) (h : History) (d : Reader) → Sim j h → Stand h d → h .first ≤ d .position
     → AllTyped (map callOf us) → NoCreation j (map callOf us) → Chosen j d us
-    → posted (notes h (map callOf us)) ≡ posted h → Soon h d (ample j h d us) → follow j d us .position ≡ h .end
+    → posted (notes h (map callOf us)) ≡ posted h → Soon h d (ample h us) → follow j d us .position ≡ h .end
 progress [] j h d m t low y n c quiet (inl s) = s
 progress [] j h d m t low y n c quiet (inr s) = absurd (omega arith)
 progress (mine a ∷ us) j h d m t low y n c quiet soon =
     progress us j h (told a (replyTo j a) d) m (stand-step j h d m t (mine a) tt tt (c .0)) (low-mine j h d m t low a (c .0))
     (y .1) (n .1) (c .1) quiet
-    (soon-mine j h d m t low a (c .0) (ample j h (told a (replyTo j a) d) us) soon)
+    (soon-mine j h d m t low a (c .0) (ample h us) soon)
 progress (other k ∷ us) j h d m t low y n c quiet soon =
     let s = sim-step j h m k (y .0) (n .0) in
     let rest = grow-run (map callOf us) (next j k) (note h k) (s .0) (y .1) (n .1) in
@@ -175,7 +175,7 @@ progress (other k ∷ us) j h d m t low y n c quiet soon =
     ∙ quiet)) in
     progress us (next j k) (note h k) d (s .0) (stand-grow j h (note h k) d m (s .1) t) (omega (arith, s .1 .calm calm, low)) (y .1) (n .1) (c .1)
     (quiet ∙ sym (same-posted j h d m t low (note h k) (s .1) calm))
-    (soon-other j h d m t low (note h k) (s .1) calm (ample (next j k) (note h k) d us) soon)
+    (soon-other j h d m t low (note h k) (s .1) calm (ample (note h k) us) soon)
     ∙ same-end j h d m t low (note h k) (s .1) calm
 
 -- ---- the start

@@ -1,6 +1,6 @@
 -- A reader: any choice of a list's reads that carry its position, mask and only-on-close flag.
 use mathlib.Core.Path.{_≡_}
-use mathlib.Core.Bool.{Bool, true, false, cond}
+use mathlib.Core.Bool.{cond}
 use mathlib.Core.List.{List, [], _∷_, _++_, map}
 use Prim.Native.Nat.{ℕ}
 use lib.Dec.{eqb}
@@ -13,7 +13,7 @@ use Rattle.reply_walker.specs.Reply.{positionOf, joined}
 use Rattle.journal_page.specs.declared.Filter.{Filter}
 use Rattle.journal_read.specs.Input.{startOf, filterOf, versionOf}
 use Rattle.journal_page.specs.Page.{inVersion}
-use Rattle.history.specs.Calls.{Read, Call, create, post, read, delete, finish, Journal, replyTo, next}
+use Rattle.history.specs.Calls.{Read, Call, read, Journal, replyTo, next}
 
 -- what one SUCCESS reply hands out: the version asked for, and the bytes behind the position
 pub record Sheet : Type 0 where
@@ -62,9 +62,13 @@ abbrev pub follow : Journal → Reader → List Turn → Reader
 follow j d [] = d
 follow j d (t ∷ ts) = follow (next j (callOf t)) (hears j d t) ts
 
--- a read carries the reader's position and filter
+-- two filters with one mask, of which both or neither ask for closes only
+abbrev pub Alike : Filter → Filter → Type 0
+Alike f g = (f .mask ≡ g .mask) × (eqb (f .close) 0 ≡ eqb (g .close) 0)
+
+-- a read carries the reader's position, mask and only-on-close flag
 abbrev pub Carries : Reader → Read → Type 0
-Carries d a = (startOf (a .input) ≡ d .position) × (filterOf (a .input) ≡ d .filter)
+Carries d a = (startOf (a .input) ≡ d .position) × Alike (filterOf (a .input)) (d .filter)
 
 abbrev pub Own : Reader → Turn → Type 0
 Own d (mine a) = Carries d a
