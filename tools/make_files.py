@@ -114,7 +114,7 @@ class Cases:
 
 def region_cases():
     c = Cases("regions")
-    # the published examples
+    # the worked examples
     for room in [64, 63, 40, 39]:
         c.regions(100, 60, room=room)
     for asked in [(50, 20, 1), (50, 10, 3), (100, 1, 1), (1, TOP, 1)]:

@@ -1,6 +1,5 @@
 // Runs the controls on one file over rows of nine numbers and prints what each answers, for the gate. The rows, and the lines that
 // must come of them, are made by tools/make_files.py, which shares nothing with the crates.
-ghost use lib.ListN.{length};
 ghost use Prim.Native.Nat.{_≤_};
 use case_rows::ROW;
 use case_rows::digest;

@@ -1,4 +1,4 @@
--- The published example of a file with no links: one table and one statement.
+-- The example of a file with no links: one table and one statement.
 -- Assumes nothing.
 use mathlib.Core.Path.{_≡_, refl}
 use mathlib.Core.List.{List, [], _∷_, map}

@@ -1,4 +1,4 @@
--- The published examples of the journal, and the promise to readers at one list of calls.
+-- The examples of the journal, and the promise to readers at one list of calls.
 -- Assumes nothing.
 use mathlib.Core.Path.{_≡_, refl, sym, ap₂, _∙_, subst}
 use mathlib.Core.Logic.{_⊎_, inl, inr}

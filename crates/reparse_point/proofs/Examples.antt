@@ -1,4 +1,4 @@
--- The published examples: a symbolic link's tag with 20 bytes of data, and a file without a reparse point.
+-- Examples: a symbolic link's tag with 20 bytes of data, and a file without a reparse point.
 -- Assumes nothing.
 use mathlib.Core.Path.{_≡_, refl}
 use mathlib.Core.List.{List, [], _∷_, map}

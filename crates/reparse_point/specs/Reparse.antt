@@ -30,6 +30,7 @@ headerLength tag = cond (isMicrosoft tag) 8 24
 unfoldable pub header : ℕ → List ℕ → ℕ → List ℕ
 header tag guid n = encode (4 ∷ 2 ∷ 2 ∷ []) (tag ∷ n ∷ 0 ∷ []) ++ cond (isMicrosoft tag) [] guid
 
+-- support for the control; reparse points at all; data that the tag may have; a tag; room for the header
 unfoldable pub reparseCheck : Volume → FileRecord → List ℕ → ℕ → Option Status
 reparseCheck v f bytes room =
     else (unless (supported (v .reparse)) InvalidDeviceRequest)

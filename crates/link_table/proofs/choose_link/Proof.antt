@@ -17,7 +17,7 @@ use prog.Routine.{Routine}
 use prog.Wp.{Heap, WpFn, Tables}
 use ghost.Atoms.{Atoms}
 use contract.Monad.{Fun, factI}
-use contract.Running.{givenOf, tables, tablesOf}
+use contract.Running.{givenOf}
 use types.Kit.{Given, ‵, raw, _⊛_, ⋆, _$_, _∵_, !, qed, by, move, drop as drops, split, join, use0, use2, fsplit, fjoin, frame, done}
 use types.Run.{look, init, stop, from, and-then, no-more, land, returns, enter, params1, pass1, pass0}
 use sound.WpLaws.{FmC, fmOf}
@@ -30,7 +30,6 @@ use denote.Triple.Call.{calls-at}
 use denote.Triple.Entry.{onEntry}
 use denote.Triple.Spec.{Meets, tripleOf}
 use denote.Triple.Statement.{Contract, Triple}
-use denote.Triple.Table.{entered, cited}
 use Rattle.file_links.specs.declared.Link.{Link}
 use Rattle.file_links.specs.Links.{noLink, firstOf, chosenLink}
 use Rattle.file_links.proofs.Link as T
@@ -40,7 +39,7 @@ use Rattle.file_links.proofs.no_link.Symbol as no-def
 use Rattle.file_links.proofs.no_link.Symbol.{name as #no}
 use Rattle.file_links.proofs.no_link.Met as no-thm
 use Rattle.link_table.proofs.Laws.{chosen}
-use Rattle.link_table.proofs.Walk.{envOf, Walked, ends, meets, allocs-all, frees-all, var, flag, owned-bool, twofold, token, answers}
+use Rattle.link_table.proofs.Walk.{envOf, Walked, ends, meets, stands, allocs-all, frees-all, var, flag, owned-bool, twofold, token, answers}
 use Rattle.link_table.proofs.Table.{mach, IsLink, typed-link, owned-link}
 use Rattle.link_table.proofs.first_link as first-link
 use Rattle.link_table.proofs.first_link.Symbol as first-def
@@ -72,7 +71,7 @@ module _ {M : Type 1} (𝓤 : URA M) (H : Heap 𝓤) (A : Atoms 𝓤) (W : Given
   exits r e is =
       qed W (‵ (flft κ q) ∷ []) ∵ nothing ! $ move ! (1 ∷ 0 ∷ []) $ join ! $
       by ! (ends 𝓤 H A W entry.ended (entry.clauses 𝓤 H A at-mem run) (((κ, tt), (q, tt), tt, (x, tt), (s ∷ [], tt)), tt) (mach r) r (tt, tt)
-      (LL.makes T.the-type T′.the-plain 𝓤 H A r _ is) (factI 𝓤 (r ≡ chosenLink ys) (emp 𝓤) e))
+      (LL.makes T.the-type T′.the-plain 𝓤 H A r _ is) (factI 𝓤 (r ≡ chosenLink ys) (emp 𝓤) e) ((λ κs x f. refl), tt))
 
   -- what the slice owns
   abbrev lent : Fml
@@ -122,14 +121,11 @@ entry-meets : {M : Type 1} (𝓤 : URA M) (H : Heap 𝓤) (A : Atoms 𝓤) → G
     → Triple 𝓤 (𝓣 .C #first) (First 𝓤 H A at-mem run) → Meets 𝓤 H A entry.signature (WpFn 𝓤 H (𝓣 .C) (𝓣 .Λ) code.function) (entry.spec 𝓤 H A at-mem run)
 entry-meets 𝓤 H A W at-mem run 𝓣 no-met first-met =
     meets 𝓤 H A W entry.ended (entry.clauses 𝓤 H A at-mem run) (λ κs. (slice-vals, tt)) (λ κs. (shr-slice-tells (named 0) (κs .0) T.the-row, tt))
-    𝓣 code.function ((λ κs x f. refl), tt)
-    (λ κs qs bounds a g are. walk 𝓤 H A W at-mem run (κs .0) (qs .0) (a .0 .ptr .0) (a .0 .ptr .1) (a .0 .name) (a .0 .now) 𝓣 no-met first-met (are .0 .0 .1))
+    𝓣 code.function (λ κs qs bounds a g are. walk 𝓤 H A W at-mem run (κs .0) (qs .0) (a .0 .ptr .0) (a .0 .ptr .1) (a .0 .name) (a .0 .now) 𝓣 no-met first-met (are .0 .0 .1))
 
 pub choose-link-spec : {M : Type 1} → stated.statement M
-unfolding code.routine tablesOf
+unfolding code.routine
 choose-link-spec 𝓤 H 𝓜 𝓖 𝓡 =
-    entered 𝓤 H (tripleOf 𝓤 H (𝓖 .A) entry.signature (entry.spec 𝓤 H (𝓖 .A) (𝓜 .mem) (𝓡 .run)))
-    (tables 𝓤 H 𝓜 𝓡 code.env .C) (tables 𝓤 H 𝓜 𝓡 code.env .Λ) #entry code.function (code.unfolded 𝓤 H 𝓜 𝓡)
-    (entry-meets 𝓤 H (𝓖 .A) (givenOf 𝓤 H 𝓜 𝓖) (𝓜 .mem) (𝓡 .run) (tablesOf 𝓤 H 𝓜 (tables 𝓤 H 𝓜 𝓡 code.env))
-    (cited 𝓤 H (No 𝓤 H (𝓖 .A) (𝓜 .mem) (𝓡 .run)) 𝓜 𝓡 code.env #no no-def.routine code.calls-file-links·no-link (no-thm.met 𝓤 H 𝓜 𝓖 𝓡))
-    (cited 𝓤 H (First 𝓤 H (𝓖 .A) (𝓜 .mem) (𝓡 .run)) 𝓜 𝓡 code.env #first first-def.routine code.calls-link-table·first-link (first-thm.met 𝓤 H 𝓜 𝓖 𝓡)))
+    stands 𝓤 H 𝓜 𝓡 code.env ((#no, no-def.routine, _) ∷ (#first, first-def.routine, _) ∷ []) #entry code.function _ (code.unfolded 𝓤 H 𝓜 𝓡)
+    (code.calls-file-links·no-link, no-thm.met 𝓤 H 𝓜 𝓖 𝓡, (code.calls-link-table·first-link, first-thm.met 𝓤 H 𝓜 𝓖 𝓡, tt))
+    (λ 𝓣 known. entry-meets 𝓤 H (𝓖 .A) (givenOf 𝓤 H 𝓜 𝓖) (𝓜 .mem) (𝓡 .run) 𝓣 (known .0) (known .1 .0))

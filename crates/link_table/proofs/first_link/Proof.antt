@@ -19,7 +19,7 @@ use prog.Routine.{Routine}
 use prog.Wp.{Heap, Out, Env, afterSeq, afterTurn, WpFn, Tables}
 use ghost.Atoms.{Atoms}
 use contract.Monad.{Fun, factI}
-use contract.Running.{givenOf, tables, tablesOf}
+use contract.Running.{givenOf}
 use types.Kit.{Given, Item, ‵, raw, _⊛_, ⋆, runs, anyQ, atRet, Sq, _$_, _∵_, !, qed, by, move, drop as drops, split, join, use0, fsplit, fjoin, frame, done}
 use types.Run.{look, store, init, forget, stop, from, lit, of-opd, and-then, no-more, bin, assigns-last, land, first, skips, jumps, blocks, branches, returns, returns-within, enter, params1, pass1, pass0, exec, again, loops}
 use sound.WpLaws.{fmOf}
@@ -34,7 +34,6 @@ use denote.Triple.Call.{calls-at}
 use denote.Triple.Entry.{onEntry}
 use denote.Triple.Spec.{Meets, tripleOf}
 use denote.Triple.Statement.{Contract, Triple}
-use denote.Triple.Table.{entered, cited}
 use Rattle.file_links.specs.declared.Link.{Link}
 use Rattle.file_links.specs.Links.{has, firstOf}
 use Rattle.file_links.proofs.Link as T
@@ -44,7 +43,7 @@ use Rattle.file_links.proofs.has_name.Symbol as has-def
 use Rattle.file_links.proofs.has_name.Symbol.{name as #has}
 use Rattle.file_links.proofs.has_name.Met as has-thm
 use Rattle.link_table.proofs.Laws.{linkAt, search as searchOf, Stops, stops-past, stops-here, goes-on}
-use Rattle.link_table.proofs.Walk.{after, Places, envOf, locals, Walked, ends, meets, Turned, allocs-all, frees-all, var, part, sets, owned-bool, answers}
+use Rattle.link_table.proofs.Walk.{after, Places, envOf, locals, Walked, ends, meets, stands, Turned, allocs-all, frees-all, var, part, sets, owned-bool, answers}
 use Rattle.link_table.proofs.Table.{mach, IsLink, Shared, Upto, Nearer, Nearer-wf, next, nearer, index-fits, place-fits, typed-link, owned-link, copies-link}
 use Rattle.link_table.proofs.first_link.Key.{name as #entry}
 use Rattle.link_table.proofs.first_link as entry
@@ -74,7 +73,7 @@ module _ {M : Type 1} (𝓤 : URA M) (H : Heap 𝓤) (A : Atoms 𝓤) (W : Given
   exits r e is =
       qed W (‵ (flft κ q) ∷ []) ∵ nothing ! $ move ! (1 ∷ 0 ∷ []) $ join ! $
       by ! (ends 𝓤 H A W entry.ended (entry.clauses 𝓤 H A at-mem run) (((κ, tt), (q, tt), tt, x, at), tt) (mach r) r (tt, (tt, (tt, tt)))
-      (LL.makes T.the-type T′.the-plain 𝓤 H A r _ is) (factI 𝓤 (r ≡ firstOf short ys other) (emp 𝓤) e))
+      (LL.makes T.the-type T′.the-plain 𝓤 H A r _ is) (factI 𝓤 (r ≡ firstOf short ys other) (emp 𝓤) e) ((λ κs x f. refl), ((λ κs x f. refl), ((λ κs x f. refl), tt))))
 
   -- the search, from a part of the table
   abbrev search : List Link → Link
@@ -163,13 +162,10 @@ entry-meets : {M : Type 1} (𝓤 : URA M) (H : Heap 𝓤) (A : Atoms 𝓤) → G
 entry-meets 𝓤 H A W at-mem run 𝓣 known =
     meets 𝓤 H A W entry.ended (entry.clauses 𝓤 H A at-mem run) (λ κs. (slice-vals, (bool-vals, (LL.vals T.the-type T′.the-laws, tt))))
     (λ κs. (shr-slice-tells (named 0) (κs .0) T.the-row, (bool-tells, (LL.tells T.the-type T′.the-laws, tt))))
-    𝓣 code.function ((λ κs x f. refl), ((λ κs x f. refl), ((λ κs x f. refl), tt)))
-    (λ κs qs bounds a g are. walk 𝓤 H A W at-mem run (κs .0) (qs .0) (a .0 .ptr .0) (a .0 .ptr .1) (a .0 .name) (a .0 .now) (a .1 .0) (a .1 .1 .0) (are .0 .0 .1) (are .1 .1 .0) 𝓣 known)
+    𝓣 code.function (λ κs qs bounds a g are. walk 𝓤 H A W at-mem run (κs .0) (qs .0) (a .0 .ptr .0) (a .0 .ptr .1) (a .0 .name) (a .0 .now) (a .1 .0) (a .1 .1 .0) (are .0 .0 .1) (are .1 .1 .0) 𝓣 known)
 
 pub first-link-spec : {M : Type 1} → stated.statement M
-unfolding code.routine tablesOf
+unfolding code.routine
 first-link-spec 𝓤 H 𝓜 𝓖 𝓡 =
-    entered 𝓤 H (tripleOf 𝓤 H (𝓖 .A) entry.signature (entry.spec 𝓤 H (𝓖 .A) (𝓜 .mem) (𝓡 .run)))
-    (tables 𝓤 H 𝓜 𝓡 code.env .C) (tables 𝓤 H 𝓜 𝓡 code.env .Λ) #entry code.function (code.unfolded 𝓤 H 𝓜 𝓡)
-    (entry-meets 𝓤 H (𝓖 .A) (givenOf 𝓤 H 𝓜 𝓖) (𝓜 .mem) (𝓡 .run) (tablesOf 𝓤 H 𝓜 (tables 𝓤 H 𝓜 𝓡 code.env))
-    (cited 𝓤 H (Has 𝓤 H (𝓖 .A) (𝓜 .mem) (𝓡 .run)) 𝓜 𝓡 code.env #has has-def.routine code.calls-file-links·has-name (has-thm.met 𝓤 H 𝓜 𝓖 𝓡)))
+    stands 𝓤 H 𝓜 𝓡 code.env ((#has, has-def.routine, _) ∷ []) #entry code.function _ (code.unfolded 𝓤 H 𝓜 𝓡)
+    (code.calls-file-links·has-name, has-thm.met 𝓤 H 𝓜 𝓖 𝓡, tt) (λ 𝓣 known. entry-meets 𝓤 H (𝓖 .A) (givenOf 𝓤 H 𝓜 𝓖) (𝓜 .mem) (𝓡 .run) 𝓣 (known .0))

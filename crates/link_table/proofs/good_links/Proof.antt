@@ -19,7 +19,7 @@ use prog.Routine.{Routine}
 use prog.Wp.{Heap, Out, Env, afterTurn, WpFn, Tables}
 use ghost.Atoms.{Atoms}
 use contract.Monad.{Fun, factI}
-use contract.Running.{givenOf, tables, tablesOf}
+use contract.Running.{givenOf}
 use types.Kit.{Given, Item, ‵, raw, _⊛_, ⋆, runs, anyQ, atRet, Sq, _$_, _∵_, !, qed, by, move, drop as drops, split, join, use2, fsplit, fjoin, frame, done}
 use types.Run.{look, store, init, forget, stop, from, lit, of-opd, and-then, no-more, bin, un, assigns-last, land, first, skips, jumps, blocks, branches, returns, returns-within, enter, params1, pass1, pass0, exec, again, loops}
 use sound.WpLaws.{fmOf}
@@ -33,7 +33,6 @@ use denote.Triple.Call.{calls-at}
 use denote.Triple.Entry.{onEntry}
 use denote.Triple.Spec.{Meets, tripleOf}
 use denote.Triple.Statement.{Contract, Triple}
-use denote.Triple.Table.{entered, cited}
 use Rattle.file_links.specs.declared.Link.{Link}
 use Rattle.file_links.specs.Links.{goodLink, goodLinks}
 use Rattle.file_links.proofs.Link as T
@@ -42,7 +41,7 @@ use Rattle.file_links.proofs.good_link.Symbol as good-def
 use Rattle.file_links.proofs.good_link.Symbol.{name as #good}
 use Rattle.file_links.proofs.good_link.Met as good-thm
 use Rattle.link_table.proofs.Laws.{linkAt, all-good, one-bad, good-on}
-use Rattle.link_table.proofs.Walk.{after, Places, envOf, locals, Walked, ends, meets, Turned, allocs-all, frees-all, var, flag, part, sets, twofold, token, answers}
+use Rattle.link_table.proofs.Walk.{after, Places, envOf, locals, Walked, ends, meets, stands, Turned, allocs-all, frees-all, var, flag, part, sets, twofold, token, answers}
 use Rattle.link_table.proofs.Table.{mach, IsLink, Shared, Upto, Nearer, Nearer-wf, next, nearer, index-fits, place-fits, typed-link, owned-link, copies-link}
 use Rattle.link_table.proofs.good_links.Key.{name as #entry}
 use Rattle.link_table.proofs.good_links as entry
@@ -79,7 +78,7 @@ module _ {M : Type 1} (𝓤 : URA M) (H : Heap 𝓤) (A : Atoms 𝓤) (W : Given
   exits r e =
       qed W ((‵ (flft κ₀ q₀) ⊛ ‵ (flft κ q)) ∷ []) ∵ split ! $ nothing ! $ move ! (2 ∷ 0 ∷ []) $ join ! $ move ! (1 ∷ 0 ∷ []) $ join ! $
       by ! (ends 𝓤 H A W entry.ended (entry.clauses 𝓤 H A at-mem run) (((κ₀, (κ, tt)), (q₀, (q, tt)), tt, x, at), tt) (vbool r) r (tt, (tt, tt)) (bool-makes 𝓤 H A W r _ refl)
-      (factI 𝓤 (r ≡ judge ys) (emp 𝓤) e))
+      (factI 𝓤 (r ≡ judge ys) (emp 𝓤) e) ((λ κs x f. refl), ((λ κs x f. refl), tt)))
 
   -- what the pool owns
   abbrev lent : Fml
@@ -148,14 +147,11 @@ entry-meets : {M : Type 1} (𝓤 : URA M) (H : Heap 𝓤) (A : Atoms 𝓤) → G
     → Meets 𝓤 H A entry.signature (WpFn 𝓤 H (𝓣 .C) (𝓣 .Λ) code.function) (entry.spec 𝓤 H A at-mem run)
 entry-meets 𝓤 H A W at-mem run 𝓣 known =
     meets 𝓤 H A W entry.ended (entry.clauses 𝓤 H A at-mem run) (λ κs. (slice-vals, (slice-vals, tt))) (λ κs. (shr-slice-tells (named 0) (κs .0) u8, (shr-slice-tells (named 1) (κs .1 .0) T.the-row, tt)))
-    𝓣 code.function ((λ κs x f. refl), ((λ κs x f. refl), tt))
-    (λ κs qs bounds a g are. walk 𝓤 H A W at-mem run (κs .0) (κs .1 .0) (qs .0) (qs .1 .0) (a .0) (a .1 .0 .ptr .0) (a .1 .0 .ptr .1) (a .1 .0 .name) (a .1 .0 .now)
+    𝓣 code.function (λ κs qs bounds a g are. walk 𝓤 H A W at-mem run (κs .0) (κs .1 .0) (qs .0) (qs .1 .0) (a .0) (a .1 .0 .ptr .0) (a .1 .0 .ptr .1) (a .1 .0 .name) (a .1 .0 .now)
     (are .0 .0 .1) (are .1 .0 .0 .1) 𝓣 known)
 
 pub good-links-spec : {M : Type 1} → stated.statement M
-unfolding code.routine tablesOf
+unfolding code.routine
 good-links-spec 𝓤 H 𝓜 𝓖 𝓡 =
-    entered 𝓤 H (tripleOf 𝓤 H (𝓖 .A) entry.signature (entry.spec 𝓤 H (𝓖 .A) (𝓜 .mem) (𝓡 .run)))
-    (tables 𝓤 H 𝓜 𝓡 code.env .C) (tables 𝓤 H 𝓜 𝓡 code.env .Λ) #entry code.function (code.unfolded 𝓤 H 𝓜 𝓡)
-    (entry-meets 𝓤 H (𝓖 .A) (givenOf 𝓤 H 𝓜 𝓖) (𝓜 .mem) (𝓡 .run) (tablesOf 𝓤 H 𝓜 (tables 𝓤 H 𝓜 𝓡 code.env))
-    (cited 𝓤 H (Good 𝓤 H (𝓖 .A) (𝓜 .mem) (𝓡 .run)) 𝓜 𝓡 code.env #good good-def.routine code.calls-file-links·good-link (good-thm.met 𝓤 H 𝓜 𝓖 𝓡)))
+    stands 𝓤 H 𝓜 𝓡 code.env ((#good, good-def.routine, _) ∷ []) #entry code.function _ (code.unfolded 𝓤 H 𝓜 𝓡)
+    (code.calls-file-links·good-link, good-thm.met 𝓤 H 𝓜 𝓖 𝓡, tt) (λ 𝓣 known. entry-meets 𝓤 H (𝓖 .A) (givenOf 𝓤 H 𝓜 𝓖) (𝓜 .mem) (𝓡 .run) 𝓣 (known .0))
