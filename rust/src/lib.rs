@@ -264,6 +264,7 @@ impl Status {
     }
 
     /// The status with a number that the library gave back.
+    #[inline]
     fn of(number: u32) -> Status {
         if number == 0 {
             return Status::Success;
@@ -385,6 +386,7 @@ pub struct Answer {
 
 impl Answer {
     /// The library's answer about an output buffer of `room` bytes.
+    #[inline]
     fn of(answer: c::Answer, room: usize) -> Answer {
         let status = Status::of(answer.status);
         let count = answer.count as usize;
@@ -405,6 +407,7 @@ impl Volume {
     /// Refusals, in order: [`Status::JournalDeleteInProgress`] while deleting;
     /// [`Status::InvalidParameter`] if active, or if `id` is 0 or the last one
     /// used; [`Status::FileCorruptError`] for a wrong `capacity` or `last`.
+    #[inline]
     pub fn create(&mut self, id: u64) -> Status {
         // SAFETY: the pointer comes from a live exclusive borrow of a record
         // with the C layout.
@@ -418,6 +421,7 @@ impl Volume {
     /// Refusals, in order: [`Status::JournalDeleteInProgress`];
     /// [`Status::JournalNotActive`]; [`Status::InvalidParameter`] for a wrong
     /// id.
+    #[inline]
     pub fn delete(&mut self, id: u64) -> Status {
         // SAFETY: as in `create`.
         Status::of(unsafe { c::usn_delete(self, id) })
@@ -429,6 +433,7 @@ impl Volume {
     ///
     /// Refusals, in order: [`Status::JournalNotActive`] if idle;
     /// [`Status::InvalidParameter`] if active.
+    #[inline]
     pub fn finish(&mut self) -> Status {
         // SAFETY: as in `create`.
         Status::of(unsafe { c::usn_finish(self) })
@@ -450,6 +455,7 @@ impl Volume {
     /// [`Status::InvalidParameter`] for a name that is odd, empty or above 510
     /// bytes; [`Status::DiskFull`] if the record is longer than the ring or
     /// `last` would pass 2^63 - 1.
+    #[inline]
     pub fn post(&mut self, ring: &mut [u8], change: &Change, name: &[u8], usn: &mut u64) -> Status {
         // SAFETY: each pointer and length comes from a live borrow; those of
         // the record, the ring and the Usn are exclusive.
@@ -484,6 +490,7 @@ impl Volume {
     /// [`Status::InvalidParameter`] if it is above `last` or off a record
     /// boundary; [`Status::BufferTooSmall`] if the first selected record does
     /// not fit.
+    #[inline]
     pub fn read_journal(&self, ring: &[u8], input: &[u8], output: &mut [u8]) -> Answer {
         // SAFETY: each pointer and length comes from a live borrow; that of the
         // output is exclusive.
@@ -515,6 +522,7 @@ impl Volume {
     /// the table; [`Status::InvalidParameter`] for the versions;
     /// [`Status::BufferTooSmall`] below 64 bytes of output for version 2 or 80
     /// for version 3, then below the record's length.
+    #[inline]
     pub fn read_file(
         &self,
         file: &FileRecord,
@@ -558,6 +566,7 @@ impl Volume {
     /// passes 2^63 - 1, or a usage without flag 1; [`Status::BufferTooSmall`]
     /// below 40 bytes of output; [`Status::BufferOverflow`] if a second region is
     /// due and the output is below 64 bytes.
+    #[inline]
     pub fn query_file_regions(&self, file: &FileRecord, input: &[u8], output: &mut [u8]) -> Answer {
         // SAFETY: as in `read_journal`.
         let answer = unsafe {
@@ -584,6 +593,7 @@ impl Volume {
     /// [`Status::FileCorruptError`] for too much data, or any with tag 0;
     /// [`Status::NotAReparsePoint`] for tag 0; [`Status::BufferTooSmall`] below 8
     /// bytes of output for a Microsoft tag or 24 for another.
+    #[inline]
     pub fn get_reparse_point(&self, file: &FileRecord, data: &[u8], output: &mut [u8]) -> Answer {
         // SAFETY: as in `read_journal`.
         let answer = unsafe {
@@ -632,6 +642,7 @@ pub struct Record {
 /// The bytes are lent and stay as they are. `None` stands for
 /// [`Status::InvalidParameter`]: no record of version 2.0 or 3.0 with every
 /// fixed field, length and padding byte right lies there.
+#[inline]
 pub fn read_record(bytes: &[u8], at: usize) -> Option<Record> {
     // SAFETY: pointer and length come from one live borrow.
     let record = unsafe { c::usn_read_record(bytes.as_ptr(), bytes.len(), at as u64) };
@@ -677,6 +688,7 @@ pub struct Walk {
 /// The reply is lent and stays as it is. An error stands for
 /// [`Status::InvalidParameter`] and holds the bad record's first byte, or 0 for
 /// a reply below 8 bytes.
+#[inline]
 pub fn walk_reply(reply: &[u8]) -> Result<Walk, usize> {
     // SAFETY: pointer and length come from one live borrow.
     let walk = unsafe { c::usn_walk_reply(reply.as_ptr(), reply.len()) };
@@ -704,6 +716,7 @@ pub fn walk_reply(reply: &[u8]) -> Result<Walk, usize> {
 ///
 /// The one refusal is [`Status::BufferTooSmall`], for an output shorter than 64
 /// bytes and twice the reply's length.
+#[inline]
 pub fn list_reply(reply: &[u8], output: &mut [u8]) -> Answer {
     // SAFETY: each pointer and length comes from a live borrow; that of the
     // output is exclusive.
