@@ -1,7 +1,7 @@
 /*
  * The C interface of the library: a volume's change journal and four controls on it and on its files.
  *
- * Build the library with `rt staticlib capi` and link target/staticlib/libcapi.a (x86-64 Linux). It calls no function but
+ * Build the library with `rt staticlib lanhduxe` and link target/staticlib/liblanhduxe.a (x86-64 Linux). It calls no function but
  * memcpy and memset, allocates nothing and keeps nothing between calls.
  *
  * Memory. Every buffer is lent for the time of one call, as a pointer and a length; with a length of 0 the pointer may be NULL. What

@@ -1,4 +1,4 @@
-//! Links the static library `libcapi.a`. Its folder is `LANHDUXE_LIB_DIR`, or
+//! Links the static library `liblanhduxe.a`. Its folder is `LANHDUXE_LIB_DIR`, or
 //! `../target/staticlib` beside this package when the variable is not set.
 
 use std::env;
@@ -12,7 +12,7 @@ fn main() {
         Some(folder) => Path::new(&manifest).join(folder),
         None => PathBuf::from(manifest).join("../target/staticlib"),
     };
-    let archive = folder.join("libcapi.a");
+    let archive = folder.join("liblanhduxe.a");
     println!("cargo:rerun-if-changed={}", archive.display());
     if !archive.is_file() {
         panic!(
@@ -21,5 +21,5 @@ fn main() {
         );
     }
     println!("cargo:rustc-link-search=native={}", folder.display());
-    println!("cargo:rustc-link-lib=static=capi");
+    println!("cargo:rustc-link-lib=static=lanhduxe");
 }

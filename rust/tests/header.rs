@@ -11,8 +11,8 @@ const STRUCTS: [(&str, &str, &str); 7] = [
     ("crates/file_record/src/lib.rt", "FileRecord", "usn_file"),
     ("crates/file_links/src/lib.rt", "Link", "usn_link"),
     ("crates/call_cores/src/lib.rt", "Report", "usn_answer"),
-    ("crates/capi/src/lib.rt", "RecordReport", "usn_record"),
-    ("crates/capi/src/lib.rt", "WalkReport", "usn_walk"),
+    ("crates/lanhduxe/src/lib.rt", "RecordReport", "usn_record"),
+    ("crates/lanhduxe/src/lib.rt", "WalkReport", "usn_walk"),
 ];
 
 /// The calls that the library exports.
@@ -71,7 +71,7 @@ fn the_header_has_the_librarys_structs() {
 
 #[test]
 fn the_header_has_the_librarys_calls() {
-    let (header, library) = (source("include/lanhduxe.h"), source("crates/capi/src/lib.rt"));
+    let (header, library) = (source("include/lanhduxe.h"), source("crates/lanhduxe/src/lib.rt"));
     let calls: Vec<&str> = library
         .split("pub extern \"C\" fn ")
         .skip(1)
