@@ -18,23 +18,11 @@ abbrev μ-loop : tie.MeasureT-loop
 loop-holds : tie.Need-loop-holds Inv-loop μ-loop
 loop-holds c = refl
 
-mul-d : tie.Need-mul-d Inv-loop μ-loop
-mul-d c = omega arith
-
-shared-slice-read-d : tie.Need-shared-slice-read-d Inv-loop μ-loop
-shared-slice-read-d c = omega arith
-
 cast-d : tie.Need-cast-d Inv-loop μ-loop
 cast-d c = omega (arith, c .shared-slice-known .given (c .before .before .loop .i))
 
 add-d : tie.Need-add-d Inv-loop μ-loop
 add-d c = omega (arith, c .shared-slice-known .given (c .before .before .loop .i))
-
-add-i : tie.Need-add-i Inv-loop μ-loop
-add-i c = omega arith
-
-loop-less : tie.Need-loop-less Inv-loop μ-loop
-loop-less c = omega arith
 
 loop-again : tie.Need-loop-again Inv-loop μ-loop
 loop-again c =
@@ -57,11 +45,11 @@ digest-spec =
     Inv-loop
     μ-loop
     loop-holds
-    mul-d
-    shared-slice-read-d
+    (λ c. omega arith)
+    (λ c. omega arith)
     cast-d
     add-d
-    add-i
-    loop-less
+    (λ c. omega arith)
+    (λ c. omega arith)
     loop-again
     returns)

@@ -7,12 +7,6 @@ use borrow.Author.Tests.{le-leb, lt-leb}
 use Rattle.case_rows.proofs.number.Statement.{statement}
 use Rattle.case_rows.proofs.number.Tie as tie
 
-mul-at : tie.Need-mul-at
-mul-at c = omega arith
-
-add-if1 : tie.Need-add-if1
-add-if1 c = omega arith
-
 returns : tie.Need-returns
 returns c =
     let a = c .before .before .args in
@@ -27,4 +21,4 @@ returns-2 c =
     rw (le-leb (8 * a .i + 8) (length (a .row .now)) (omega arith)) (c .get .ensures .0)
 
 pub number-spec : {M : Type 1} → statement M
-number-spec = tie.close (tie.spec mul-at add-if1 returns get-requires returns-2)
+number-spec = tie.close (tie.spec (λ c. omega arith) (λ c. omega arith) returns get-requires returns-2)

@@ -22,47 +22,17 @@ loop-holds : tie.Need-loop-holds Inv-loop μ-loop
 unfolding decimal decimalTo
 loop-holds c = search needs
 
-sub-i : tie.Need-sub-i Inv-loop μ-loop
-sub-i c = omega arith
-
-add-digits : tie.Need-add-digits Inv-loop μ-loop
-add-digits c = omega arith
-
-cast-digits : tie.Need-cast-digits Inv-loop μ-loop
-cast-digits c = omega arith
-
-array-write-digits : tie.Need-array-write-digits Inv-loop μ-loop
-array-write-digits c = omega arith
-
-loop-less : tie.Need-loop-less Inv-loop μ-loop
-loop-less c = omega arith
-
 loop-again : tie.Need-loop-again Inv-loop μ-loop
 loop-again c =
     let a = c .before in
     let r = decimal-again _ (a .loop .i) (a .loop .rest) (a .loop .digits) (a .loop .inv .1) (a .loop .inv .2) (a .loop .inv .3) (a .loop .inv .4) (c .if1 .left) in
     (r .0, omega arith, simp length-set (a .loop .inv .2), r .1, r .2)
 
-sub-copy : tie.Need-sub-copy Inv-loop μ-loop
-sub-copy c = omega arith
-
-part-copy-start : tie.Need-part-copy-start Inv-loop μ-loop
-part-copy-start c = omega arith
-
 part-copy-end : tie.Need-part-copy-end Inv-loop μ-loop
 part-copy-end c =
     let a = c .before .before .before in
     let e : length (set (a .loop .digits) (a .loop .i - 1) (48 + a .loop .rest % 10)) ≡ 20 = simp length-set (a .loop .inv .2) in
     le-of-eq (sym e)
-
-copy-requires : tie.Need-copy-requires Inv-loop μ-loop
-copy-requires c κs = omega arith
-
-sub-result : tie.Need-sub-result Inv-loop μ-loop
-sub-result c = omega arith
-
-same-length : tie.Need-same-length Inv-loop μ-loop
-same-length c = omega arith
 
 returns : tie.Need-returns Inv-loop μ-loop
 returns c =
@@ -81,16 +51,16 @@ put-decimal-spec =
     Inv-loop
     μ-loop
     loop-holds
-    sub-i
-    add-digits
-    cast-digits
-    array-write-digits
-    loop-less
+    (λ c. omega arith)
+    (λ c. omega arith)
+    (λ c. omega arith)
+    (λ c. omega arith)
+    (λ c. omega arith)
     loop-again
-    sub-copy
-    part-copy-start
+    (λ c. omega arith)
+    (λ c. omega arith)
     part-copy-end
-    copy-requires
-    sub-result
-    same-length
+    (λ c κs. omega arith)
+    (λ c. omega arith)
+    (λ c. omega arith)
     returns)

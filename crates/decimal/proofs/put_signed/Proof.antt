@@ -9,26 +9,11 @@ use Rattle.decimal.proofs.Digits.{signed-low, signed-out}
 use Rattle.decimal.proofs.put_signed.Statement.{statement}
 use Rattle.decimal.proofs.put_signed.Tie as tie
 
-put-decimal-requires : tie.Need-put-decimal-requires
-put-decimal-requires c κs = omega arith
-
-same-length : tie.Need-same-length
-same-length c = omega arith
-
 returns : tie.Need-returns
 returns c =
     let p = c .before .before in
     let e = signed-low _ (p .before .before .if1 .taken) in
     (rw e at (p .put-decimal .ensures .0), omega arith, rw e at (p .put-decimal .ensures .2))
-
-slice-write-out : tie.Need-slice-write-out
-slice-write-out c = omega arith
-
-sub-magnitude : tie.Need-sub-magnitude
-sub-magnitude c = omega arith
-
-add-magnitude : tie.Need-add-magnitude
-add-magnitude c = omega arith
 
 sub-put-decimal : tie.Need-sub-put-decimal
 sub-put-decimal c = simp length-set (omega arith)
@@ -36,14 +21,8 @@ sub-put-decimal c = simp length-set (omega arith)
 part-put-decimal-start : tie.Need-part-put-decimal-start
 part-put-decimal-start c = omega (arith, length-set (c .before .before .args .out .now) 0 45)
 
-part-put-decimal-end : tie.Need-part-put-decimal-end
-part-put-decimal-end c = omega arith
-
 put-decimal-requires-2 : tie.Need-put-decimal-requires-2
 put-decimal-requires-2 c κs = simp (length-take, length-drop, length-set) (omega arith)
-
-add-result : tie.Need-add-result
-add-result c = omega arith
 
 same-length-2 : tie.Need-same-length-2
 same-length-2 c =
@@ -63,16 +42,16 @@ pub put-signed-spec : {M : Type 1} → statement M
 put-signed-spec =
     tie.close
     (tie.spec
-    put-decimal-requires
-    same-length
+    (λ c κs. omega arith)
+    (λ c. omega arith)
     returns
-    slice-write-out
-    sub-magnitude
-    add-magnitude
+    (λ c. omega arith)
+    (λ c. omega arith)
+    (λ c. omega arith)
     sub-put-decimal
     part-put-decimal-start
-    part-put-decimal-end
+    (λ c. omega arith)
     put-decimal-requires-2
-    add-result
+    (λ c. omega arith)
     same-length-2
     returns-2)

@@ -11,21 +11,6 @@ Inv-loop count i₀ i = Unit {0}
 abbrev μ-loop : tie.MeasureT-loop
 μ-loop count i₀ i = count - i
 
-arg-count-requires : tie.Need-arg-count-requires Inv-loop μ-loop
-arg-count-requires c κs = omega arith
-
-loop-holds : tie.Need-loop-holds Inv-loop μ-loop
-loop-holds c = omega arith
-
-run-file-requires : tie.Need-run-file-requires Inv-loop μ-loop
-run-file-requires c κs = omega arith
-
-add-i : tie.Need-add-i Inv-loop μ-loop
-add-i c = omega arith
-
-loop-less : tie.Need-loop-less Inv-loop μ-loop
-loop-less c = omega arith
-
 loop-again : tie.Need-loop-again Inv-loop μ-loop
 loop-again c = tt
 
@@ -38,10 +23,10 @@ main-spec =
     (tie.spec
     Inv-loop
     μ-loop
-    arg-count-requires
-    loop-holds
-    run-file-requires
-    add-i
-    loop-less
+    (λ c κs. omega arith)
+    (λ c. omega arith)
+    (λ c κs. omega arith)
+    (λ c. omega arith)
+    (λ c. omega arith)
     loop-again
     returns)

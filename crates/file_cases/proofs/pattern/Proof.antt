@@ -24,24 +24,6 @@ mul-s c =
     let k : c .before .before .args .step ≤ 250 = omega arith in
     omega (arith, mul-le-mul m k)
 
-cast-s : tie.Need-cast-s Inv-loop μ-loop
-cast-s c = omega arith
-
-slice-write-s : tie.Need-slice-write-s Inv-loop μ-loop
-slice-write-s c = omega arith
-
-add-i : tie.Need-add-i Inv-loop μ-loop
-add-i c = omega arith
-
-loop-less : tie.Need-loop-less Inv-loop μ-loop
-loop-less c = omega arith
-
-loop-again : tie.Need-loop-again Inv-loop μ-loop
-loop-again c = search needs
-
-same-length : tie.Need-same-length Inv-loop μ-loop
-same-length c = omega arith
-
 returns : tie.Need-returns Inv-loop μ-loop
 returns c = tt
 
@@ -53,10 +35,10 @@ pattern-spec =
     μ-loop
     loop-holds
     mul-s
-    cast-s
-    slice-write-s
-    add-i
-    loop-less
-    loop-again
-    same-length
+    (λ c. omega arith)
+    (λ c. omega arith)
+    (λ c. omega arith)
+    (λ c. omega arith)
+    (λ c. search needs)
+    (λ c. omega arith)
     returns)

@@ -11,24 +11,6 @@ use Rattle.file_cases.proofs.usn.Tie as tie
 few : (c : tie.Joined1) → c .if1 .n ≤ 16
 few c = ⊎-elim (λ w. omega (arith, w .0 .taken, w .1)) (λ w. omega (arith, w .1)) (c .if1 .came)
 
-slice-aggregate-column : tie.Need-slice-aggregate-column
-slice-aggregate-column c = omega arith
-
-column-requires : tie.Need-column-requires
-column-requires c κs = omega arith
-
-slice-aggregate-column-2 : tie.Need-slice-aggregate-column-2
-slice-aggregate-column-2 c = omega arith
-
-column-requires-2 : tie.Need-column-requires-2
-column-requires-2 c κs = omega arith
-
-slice-aggregate-column-3 : tie.Need-slice-aggregate-column-3
-slice-aggregate-column-3 c = omega arith
-
-column-requires-3 : tie.Need-column-requires-3
-column-requires-3 c κs = omega arith
-
 array-share-prefix-places : tie.Need-array-share-prefix-places
 array-share-prefix-places c = omega (arith, few c)
 
@@ -47,31 +29,22 @@ array-share-prefix-shorts c = omega (arith, few (c .before .before))
 slice-aggregate-usn-of-3 : tie.Need-slice-aggregate-usn-of-3
 slice-aggregate-usn-of-3 c = sym (length-take-le _ _ (omega (arith, few (c .before .before .before))))
 
-usn-of-requires : tie.Need-usn-of-requires
-usn-of-requires c κs = omega arith
-
-same-length : tie.Need-same-length
-same-length c = omega arith
-
-returns : tie.Need-returns
-returns c = omega arith
-
 pub usn-spec : {M : Type 1} → statement M
 usn-spec =
     tie.close
     (tie.spec
-    slice-aggregate-column
-    column-requires
-    slice-aggregate-column-2
-    column-requires-2
-    slice-aggregate-column-3
-    column-requires-3
+    (λ c. omega arith)
+    (λ c κs. omega arith)
+    (λ c. omega arith)
+    (λ c κs. omega arith)
+    (λ c. omega arith)
+    (λ c κs. omega arith)
     array-share-prefix-places
     slice-aggregate-usn-of
     array-share-prefix-lengths
     slice-aggregate-usn-of-2
     array-share-prefix-shorts
     slice-aggregate-usn-of-3
-    usn-of-requires
-    same-length
-    returns)
+    (λ c κs. omega arith)
+    (λ c. omega arith)
+    (λ c. omega arith))

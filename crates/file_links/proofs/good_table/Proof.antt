@@ -33,27 +33,6 @@ loop-holds c =
     let a = e .before .before .before .before .before .args in
     (omega arith, refl, e .if1 .left, c .if2 .left, judged-start (a .pool .now) (a .places .now) (a .lengths .now) (a .shorts .now) (e .if1 .left) (c .if2 .left))
 
-mul-t11 : tie.Need-mul-t11 Inv-loop μ-loop
-mul-t11 c = omega arith
-
-shared-slice-read-t13 : tie.Need-shared-slice-read-t13 Inv-loop μ-loop
-shared-slice-read-t13 c = omega arith
-
-mul-t14 : tie.Need-mul-t14 Inv-loop μ-loop
-mul-t14 c = omega arith
-
-shared-slice-read-t16 : tie.Need-shared-slice-read-t16 Inv-loop μ-loop
-shared-slice-read-t16 c = omega arith
-
-mul-t17 : tie.Need-mul-t17 Inv-loop μ-loop
-mul-t17 c = omega arith
-
-shared-slice-read-t19 : tie.Need-shared-slice-read-t19 Inv-loop μ-loop
-shared-slice-read-t19 c = omega arith
-
-good-link-requires : tie.Need-good-link-requires Inv-loop μ-loop
-good-link-requires c κs = omega arith
-
 returns-3 : tie.Need-returns-3 Inv-loop μ-loop
 returns-3 c =
     let g = c .before in
@@ -61,12 +40,6 @@ returns-3 c =
     let a = l .before .before .before .before .before .before .before .args in
     judged-bad (a .pool .now) (a .places .now) (a .lengths .now) (a .shorts .now) (l .loop .inv .2) (l .loop .inv .3) (l .loop .i) (omega arith) (g .good-link .result) (g .good-link .ensures)
     (c .if3 .taken) (l .loop .inv .4)
-
-add-i : tie.Need-add-i Inv-loop μ-loop
-add-i c = omega arith
-
-loop-less : tie.Need-loop-less Inv-loop μ-loop
-loop-less c = omega arith
 
 loop-again : tie.Need-loop-again Inv-loop μ-loop
 loop-again c =
@@ -97,15 +70,15 @@ good-table-spec =
     returns
     returns-2
     loop-holds
-    mul-t11
-    shared-slice-read-t13
-    mul-t14
-    shared-slice-read-t16
-    mul-t17
-    shared-slice-read-t19
-    good-link-requires
+    (λ c. omega arith)
+    (λ c. omega arith)
+    (λ c. omega arith)
+    (λ c. omega arith)
+    (λ c. omega arith)
+    (λ c. omega arith)
+    (λ c κs. omega arith)
     returns-3
-    add-i
-    loop-less
+    (λ c. omega arith)
+    (λ c. omega arith)
     loop-again
     returns-4)

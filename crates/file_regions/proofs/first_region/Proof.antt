@@ -5,23 +5,11 @@ use Rattle.file_regions.proofs.Dividing.{first-behind, first-valid}
 use Rattle.file_regions.proofs.first_region.Statement.{statement}
 use Rattle.file_regions.proofs.first_region.Tie as tie
 
-sub-smaller : tie.Need-sub-smaller
-sub-smaller c = omega arith
-
-smaller-requires : tie.Need-smaller-requires
-smaller-requires c κs = omega arith
-
 returns : tie.Need-returns
 returns c =
     let k = c .before .before in
     let a = k .before .before .args in
     first-behind (a .eof) (a .vdl) (a .a) _ (k .if1 .taken) (c .smaller .ensures)
-
-sub-smaller-2 : tie.Need-sub-smaller-2
-sub-smaller-2 c = omega arith
-
-smaller-requires-2 : tie.Need-smaller-requires-2
-smaller-requires-2 c κs = omega arith
 
 returns-2 : tie.Need-returns-2
 returns-2 c =
@@ -32,4 +20,4 @@ returns-2 c =
 pub first-region-spec : {M : Type 1} → statement M
 first-region-spec =
     tie.close
-    (tie.spec sub-smaller smaller-requires returns sub-smaller-2 smaller-requires-2 returns-2)
+    (tie.spec (λ c. omega arith) (λ c κs. omega arith) returns (λ c. omega arith) (λ c κs. omega arith) returns-2)

@@ -19,9 +19,6 @@ readable k =
 returns : tie.Need-returns
 returns c = let a = c .before .before .before .args in call-support (a .v) (a .f) (a .input .now) (a .room) (c .if1 .taken)
 
-good-sizes-requires : tie.Need-good-sizes-requires
-good-sizes-requires c κs = omega arith
-
 returns-2 : tie.Need-returns-2
 returns-2 c =
     let g = c .before in
@@ -40,15 +37,6 @@ returns-3 c =
 
 read-asked-requires : tie.Need-read-asked-requires
 read-asked-requires c κs = readable c
-
-judge-asked-requires : tie.Need-judge-asked-requires
-judge-asked-requires c κs = omega arith
-
-enum-known-asked : tie.Need-enum-known-asked
-enum-known-asked c = omega arith
-
-enum-told : tie.Need-enum-told
-enum-told c = omega arith
 
 returns-4 : tie.Need-returns-4
 returns-4 c =
@@ -94,13 +82,13 @@ judge-regions-spec =
     tie.close
     (tie.spec
     returns
-    good-sizes-requires
+    (λ c κs. omega arith)
     returns-2
     returns-3
     read-asked-requires
-    judge-asked-requires
-    enum-known-asked
-    enum-told
+    (λ c κs. omega arith)
+    (λ c. omega arith)
+    (λ c. omega arith)
     returns-4
     returns-5
     returns-6)

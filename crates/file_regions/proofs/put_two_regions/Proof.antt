@@ -5,36 +5,6 @@ use Rattle.file_regions.proofs.Writing.{two-put}
 use Rattle.file_regions.proofs.put_two_regions.Statement.{statement}
 use Rattle.file_regions.proofs.put_two_regions.Tie as tie
 
-put-header-requires : tie.Need-put-header-requires
-put-header-requires c κs = omega arith
-
-sub-put-region : tie.Need-sub-put-region
-sub-put-region c = omega arith
-
-part-put-region-start : tie.Need-part-put-region-start
-part-put-region-start c = omega arith
-
-part-put-region-end : tie.Need-part-put-region-end
-part-put-region-end c = omega arith
-
-put-region-requires : tie.Need-put-region-requires
-put-region-requires c κs = omega arith
-
-sub-put-region-2 : tie.Need-sub-put-region-2
-sub-put-region-2 c = omega arith
-
-part-put-region-start-2 : tie.Need-part-put-region-start-2
-part-put-region-start-2 c = omega arith
-
-part-put-region-end-2 : tie.Need-part-put-region-end-2
-part-put-region-end-2 c = omega arith
-
-put-region-requires-2 : tie.Need-put-region-requires-2
-put-region-requires-2 c κs = omega arith
-
-same-length : tie.Need-same-length
-same-length c = omega arith
-
 returns : tie.Need-returns
 returns c =
     let z = c .before .before in
@@ -48,14 +18,14 @@ pub put-two-regions-spec : {M : Type 1} → statement M
 put-two-regions-spec =
     tie.close
     (tie.spec
-    put-header-requires
-    sub-put-region
-    part-put-region-start
-    part-put-region-end
-    put-region-requires
-    sub-put-region-2
-    part-put-region-start-2
-    part-put-region-end-2
-    put-region-requires-2
-    same-length
+    (λ c κs. omega arith)
+    (λ c. omega arith)
+    (λ c. omega arith)
+    (λ c. omega arith)
+    (λ c κs. omega arith)
+    (λ c. omega arith)
+    (λ c. omega arith)
+    (λ c. omega arith)
+    (λ c κs. omega arith)
+    (λ c. omega arith)
     returns)

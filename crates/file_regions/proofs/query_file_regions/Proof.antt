@@ -27,18 +27,6 @@ facts m =
     let a = m .before .before .before .before .before .args in
     passed-facts (a .v) (a .f) (a .input .now) (length (a .output .now)) (told-passed _ (passes m))
 
-judge-regions-requires : tie.Need-judge-regions-requires
-judge-regions-requires c κs = omega arith
-
-enum-known-call : tie.Need-enum-known-call
-enum-known-call c = omega arith
-
-refused-requires : tie.Need-refused-requires
-refused-requires c κs = omega arith
-
-enum-told : tie.Need-enum-told
-enum-told c = omega arith
-
 read-asked-requires : tie.Need-read-asked-requires
 read-asked-requires c κs = facts c .1
 
@@ -54,9 +42,6 @@ returns c =
     let a = j .before .before .before .args in
     query-refused (a .v) (a .f) (a .input .now) (a .output .now) (c .refused .result) (m .call .given .0 .0) (sym (m .call .given .1) ∙ j .judge-regions .ensures) (c .refused .ensures)
 
-same-length : tie.Need-same-length
-same-length c = omega arith
-
 returns-2 : tie.Need-returns-2
 returns-2 c =
     let r = c .before .before in
@@ -69,12 +54,12 @@ pub query-file-regions-spec : {M : Type 1} → statement M
 query-file-regions-spec =
     tie.close
     (tie.spec
-    judge-regions-requires
-    enum-known-call
-    refused-requires
-    enum-told
+    (λ c κs. omega arith)
+    (λ c. omega arith)
+    (λ c κs. omega arith)
+    (λ c. omega arith)
     read-asked-requires
     reply-regions-requires
     returns
-    same-length
+    (λ c. omega arith)
     returns-2)

@@ -23,9 +23,6 @@ get-requires-2 c κs = (omega arith, omega (arith, size (c .before)))
 get-requires-3 : tie.Need-get-requires-3
 get-requires-3 c κs = (omega arith, omega (arith, size (c .before .before)))
 
-cast-t7 : tie.Need-cast-t7
-cast-t7 c = omega arith
-
 returns-2 : tie.Need-returns-2
 returns-2 c =
     let b = c .before in
@@ -35,4 +32,4 @@ returns-2 c =
 
 pub read-asked-spec : {M : Type 1} → statement M
 read-asked-spec =
-    tie.close (tie.spec returns get-requires get-requires-2 get-requires-3 cast-t7 returns-2)
+    tie.close (tie.spec returns get-requires get-requires-2 get-requires-3 (λ c. omega arith) returns-2)

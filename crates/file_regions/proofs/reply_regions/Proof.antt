@@ -20,12 +20,6 @@ is-one k = sym (k .before .second-due .ensures) ∙ not-true _ (k .if2 .taken)
 is-two : (k : tie.Else2) → let a = k .before .before .before .before .before .before .args in secondDue (a .f .eof) (a .f .valid) (a .a) ≡ true
 is-two k = sym (k .before .second-due .ensures) ∙ not-false _ (k .if2 .left)
 
-is-outside-requires : tie.Need-is-outside-requires
-is-outside-requires c κs = omega arith
-
-success-requires : tie.Need-success-requires
-success-requires c κs = omega arith
-
 returns : tie.Need-returns
 returns c =
     let k = c .before in
@@ -37,27 +31,6 @@ first-region-requires c κs = inside _ _ (is-inside c)
 
 second-due-requires : tie.Need-second-due-requires
 second-due-requires c κs = c .first-region .ensures
-
-put-header-requires : tie.Need-put-header-requires
-put-header-requires c κs = omega arith
-
-sub-put-region : tie.Need-sub-put-region
-sub-put-region c = omega arith
-
-part-put-region-start : tie.Need-part-put-region-start
-part-put-region-start c = omega arith
-
-part-put-region-end : tie.Need-part-put-region-end
-part-put-region-end c = omega arith
-
-put-region-requires : tie.Need-put-region-requires
-put-region-requires c κs = omega arith
-
-success-requires-2 : tie.Need-success-requires-2
-success-requires-2 c κs = omega arith
-
-same-length : tie.Need-same-length
-same-length c = omega arith
 
 returns-2 : tie.Need-returns-2
 returns-2 c =
@@ -72,9 +45,6 @@ returns-2 c =
     (one-put 1 (d .first-region .result) (a .output .now) (x .put-header .last .0) (y .put-region .last .0) (s .pre .2) (x .put-header .ensures) (y .put-region .ensures))
     (c .success2 .ensures)
 
-refused-requires : tie.Need-refused-requires
-refused-requires c κs = omega arith
-
 returns-3 : tie.Need-returns-3
 returns-3 c =
     let l = c .before in
@@ -86,15 +56,6 @@ returns-3 c =
 
 second-region-requires : tie.Need-second-region-requires
 second-region-requires c κs = let k = c .before .before in (k .before .before .first-region .ensures, is-two k)
-
-put-two-regions-requires : tie.Need-put-two-regions-requires
-put-two-regions-requires c κs = omega arith
-
-success-requires-3 : tie.Need-success-requires-3
-success-requires-3 c κs = omega arith
-
-same-length-2 : tie.Need-same-length-2
-same-length-2 c = omega arith
 
 returns-4 : tie.Need-returns-4
 returns-4 c =
@@ -112,23 +73,23 @@ pub reply-regions-spec : {M : Type 1} → statement M
 reply-regions-spec =
     tie.close
     (tie.spec
-    is-outside-requires
-    success-requires
+    (λ c κs. omega arith)
+    (λ c κs. omega arith)
     returns
     first-region-requires
     second-due-requires
-    put-header-requires
-    sub-put-region
-    part-put-region-start
-    part-put-region-end
-    put-region-requires
-    success-requires-2
-    same-length
+    (λ c κs. omega arith)
+    (λ c. omega arith)
+    (λ c. omega arith)
+    (λ c. omega arith)
+    (λ c κs. omega arith)
+    (λ c κs. omega arith)
+    (λ c. omega arith)
     returns-2
-    refused-requires
+    (λ c κs. omega arith)
     returns-3
     second-region-requires
-    put-two-regions-requires
-    success-requires-3
-    same-length-2
+    (λ c κs. omega arith)
+    (λ c κs. omega arith)
+    (λ c. omega arith)
     returns-4)

@@ -17,9 +17,6 @@ sub-smaller-2 c =
     let a = s .args in
     omega (arith, due-facts (a .eof) (a .vdl) (a .a) (s .pre .1) .0)
 
-smaller-requires : tie.Need-smaller-requires
-smaller-requires c κs = omega arith
-
 returns : tie.Need-returns
 returns c =
     let s = c .before .before .before in
@@ -27,4 +24,4 @@ returns c =
     second-rest (a .eof) (a .vdl) (a .a) (a .first) (s .pre .0) _ (c .smaller .ensures)
 
 pub second-region-spec : {M : Type 1} → statement M
-second-region-spec = tie.close (tie.spec sub-smaller sub-smaller-2 smaller-requires returns)
+second-region-spec = tie.close (tie.spec sub-smaller sub-smaller-2 (λ c κs. omega arith) returns)

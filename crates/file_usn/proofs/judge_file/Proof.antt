@@ -22,21 +22,6 @@ returns-3 c =
     let g = s .before .before .before .args in
     judge-table (g .v) (g .f) (g .table) (g .input .now) (g .room) (s .if1 .left) (c .if3 .taken)
 
-input-version-requires : tie.Need-input-version-requires
-input-version-requires c κs = omega arith
-
-enum-known-choice : tie.Need-enum-known-choice
-enum-known-choice c = omega arith
-
-enum-known-choice-2 : tie.Need-enum-known-choice-2
-enum-known-choice-2 c = omega arith
-
-name-offset-requires : tie.Need-name-offset-requires
-name-offset-requires c κs = omega arith
-
-add-if4 : tie.Need-add-if4
-add-if4 c = omega arith
-
 returns-4 : tie.Need-returns-4
 returns-4 c =
     let o = c .before in
@@ -79,11 +64,11 @@ judge-file-spec =
     returns
     returns-2
     returns-3
-    input-version-requires
-    enum-known-choice
-    enum-known-choice-2
-    name-offset-requires
-    add-if4
+    (λ c κs. omega arith)
+    (λ c. omega arith)
+    (λ c. omega arith)
+    (λ c κs. omega arith)
+    (λ c. omega arith)
     returns-4
     returns-5
     returns-6)

@@ -11,21 +11,6 @@ use Rattle.file_usn.proofs.Writing.{file-refused, file-written}
 use Rattle.file_usn.proofs.read_chosen.Statement.{statement}
 use Rattle.file_usn.proofs.read_chosen.Tie as tie
 
-judge-file-requires : tie.Need-judge-file-requires
-judge-file-requires c κs = omega arith
-
-enum-known-choice : tie.Need-enum-known-choice
-enum-known-choice c = omega arith
-
-refused-requires : tie.Need-refused-requires
-refused-requires c κs = omega arith
-
-enum-known-choice-2 : tie.Need-enum-known-choice-2
-enum-known-choice-2 c = omega arith
-
-fields-of-requires : tie.Need-fields-of-requires
-fields-of-requires c κs = omega arith
-
 write-file-requires : tie.Need-write-file-requires
 write-file-requires c κs =
     let q = c .before in
@@ -44,9 +29,6 @@ returns c =
     file-refused (a .v) (a .f) (a .parent) (a .input .now) (a .output .now) (c .refused .result) (a .table) (nameAt (a .pool .now) (a .link))
     (m .choice .given .0 .0) (sym (m .choice .given .1) ∙ j .judge-file .ensures) (c .refused .ensures)
 
-same-length : tie.Need-same-length
-same-length c = omega arith
-
 returns-2 : tie.Need-returns-2
 returns-2 c =
     let r = c .before .before in
@@ -62,12 +44,12 @@ pub read-chosen-spec : {M : Type 1} → statement M
 read-chosen-spec =
     tie.close
     (tie.spec
-    judge-file-requires
-    enum-known-choice
-    refused-requires
-    enum-known-choice-2
-    fields-of-requires
+    (λ c κs. omega arith)
+    (λ c. omega arith)
+    (λ c κs. omega arith)
+    (λ c. omega arith)
+    (λ c κs. omega arith)
     write-file-requires
     returns
-    same-length
+    (λ c. omega arith)
     returns-2)

@@ -12,20 +12,11 @@ use Rattle.file_usn.proofs.Writing.{table-bad, table-good}
 use Rattle.file_usn.proofs.read_file_usn.Statement.{statement}
 use Rattle.file_usn.proofs.read_file_usn.Tie as tie
 
-good-table-requires : tie.Need-good-table-requires
-good-table-requires c κs = omega arith
-
-no-link-requires : tie.Need-no-link-requires
-no-link-requires c κs = omega arith
-
 read-chosen-requires : tie.Need-read-chosen-requires
 read-chosen-requires c κs =
     let n = c .before in
     let a = n .before .before .before .before .before .before .before .before .before .args in
     λ e. subst (λ (l : Link). goodLink (a .pool .now) l ≡ true) (sym (n .no-link .ensures)) (no-link-good (a .pool .now))
-
-same-length : tie.Need-same-length
-same-length c = omega arith
 
 returns : tie.Need-returns
 returns c =
@@ -58,9 +49,6 @@ read-chosen-requires-2 c κs =
     let ls = linksOf (a .places .now) (a .lengths .now) (a .shorts .now) in
     λ e. subst (λ (l : Link). goodLink (a .pool .now) l ≡ true) (sym (x .choose-link .ensures)) (chosen-good (a .pool .now) ls (t .2))
 
-same-length-2 : tie.Need-same-length-2
-same-length-2 c = omega arith
-
 returns-2 : tie.Need-returns-2
 returns-2 c =
     let r = c .before .before in
@@ -77,12 +65,12 @@ pub read-file-usn-spec : {M : Type 1} → statement M
 read-file-usn-spec =
     tie.close
     (tie.spec
-    good-table-requires
-    no-link-requires
+    (λ c κs. omega arith)
+    (λ c κs. omega arith)
     read-chosen-requires
-    same-length
+    (λ c. omega arith)
     returns
     choose-link-requires
     read-chosen-requires-2
-    same-length-2
+    (λ c. omega arith)
     returns-2)

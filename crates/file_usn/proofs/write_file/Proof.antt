@@ -6,32 +6,11 @@ use Rattle.file_usn.proofs.Writing.{write-replied}
 use Rattle.file_usn.proofs.write_file.Statement.{statement}
 use Rattle.file_usn.proofs.write_file.Tie as tie
 
-cast-from : tie.Need-cast-from
-cast-from c = omega arith
-
-cast-to : tie.Need-cast-to
-cast-to c = omega arith
-
-add-to : tie.Need-add-to
-add-to c = omega arith
-
-sub-write-record : tie.Need-sub-write-record
-sub-write-record c = omega arith
-
-part-write-record-start : tie.Need-part-write-record-start
-part-write-record-start c = omega arith
-
 part-write-record-end : tie.Need-part-write-record-end
 part-write-record-end c =
     let s = c .before .before .before .before .before in
     let a = s .args in
     omega (arith, link-fits (a .pool .now) (a .link) (s .pre .0))
-
-write-record-requires : tie.Need-write-record-requires
-write-record-requires c κs = omega arith
-
-same-length : tie.Need-same-length
-same-length c = omega arith
 
 returns : tie.Need-returns
 returns c =
@@ -44,12 +23,12 @@ pub write-file-spec : {M : Type 1} → statement M
 write-file-spec =
     tie.close
     (tie.spec
-    cast-from
-    cast-to
-    add-to
-    sub-write-record
-    part-write-record-start
+    (λ c. omega arith)
+    (λ c. omega arith)
+    (λ c. omega arith)
+    (λ c. omega arith)
+    (λ c. omega arith)
     part-write-record-end
-    write-record-requires
-    same-length
+    (λ c κs. omega arith)
+    (λ c. omega arith)
     returns)

@@ -6,12 +6,6 @@ use Rattle.hex.specs.Hex.{hexDigit}
 use Rattle.hex.proofs.hex_digit.Statement.{statement}
 use Rattle.hex.proofs.hex_digit.Tie as tie
 
-add-result : tie.Need-add-result
-add-result c = omega arith
-
-add-result-2 : tie.Need-add-result-2
-add-result-2 c = omega arith
-
 returns : tie.Need-returns
 unfolding hexDigit
 returns c = rw (lt-ltb _ 10 (c .if1 .taken))
@@ -21,4 +15,4 @@ unfolding hexDigit
 returns-2 c = rw (le-ltb _ 10 (c .if1 .left))
 
 pub hex-digit-spec : {M : Type 1} → statement M
-hex-digit-spec = tie.close (tie.spec add-result add-result-2 returns returns-2)
+hex-digit-spec = tie.close (tie.spec (λ c. omega arith) (λ c. omega arith) returns returns-2)

@@ -23,30 +23,6 @@ loop-holds : tie.Need-loop-holds Inv-loop μ-loop
 unfolding hexBytes
 loop-holds c = search needs
 
-sub-put-hex-byte : tie.Need-sub-put-hex-byte Inv-loop μ-loop
-sub-put-hex-byte c = omega arith
-
-part-put-hex-byte-start : tie.Need-part-put-hex-byte-start Inv-loop μ-loop
-part-put-hex-byte-start c = omega arith
-
-part-put-hex-byte-end : tie.Need-part-put-hex-byte-end Inv-loop μ-loop
-part-put-hex-byte-end c = omega arith
-
-shared-slice-read-put-hex-byte : tie.Need-shared-slice-read-put-hex-byte Inv-loop μ-loop
-shared-slice-read-put-hex-byte c = omega arith
-
-put-hex-byte-requires : tie.Need-put-hex-byte-requires Inv-loop μ-loop
-put-hex-byte-requires c κs = omega arith
-
-add-at : tie.Need-add-at Inv-loop μ-loop
-add-at c = omega arith
-
-add-i : tie.Need-add-i Inv-loop μ-loop
-add-i c = omega arith
-
-loop-less : tie.Need-loop-less Inv-loop μ-loop
-loop-less c = omega arith
-
 loop-again : tie.Need-loop-again Inv-loop μ-loop
 loop-again c =
     let p = c .before .before in
@@ -59,9 +35,6 @@ loop-again c =
       hex-again (a .loop .at) (a .loop .i) (s .args .s .now) (a .loop .out) (s .args .out .now) (p .put-hex-byte .last .0)
           (a .loop .inv .1) (t .loop-test .taken) (s .pre) (a .loop .inv .3) (p .put-hex-byte .ensures),
     )
-
-same-length : tie.Need-same-length Inv-loop μ-loop
-same-length c = omega arith
 
 returns : tie.Need-returns Inv-loop μ-loop
 returns c =
@@ -77,14 +50,14 @@ put-hex-spec =
     Inv-loop
     μ-loop
     loop-holds
-    sub-put-hex-byte
-    part-put-hex-byte-start
-    part-put-hex-byte-end
-    shared-slice-read-put-hex-byte
-    put-hex-byte-requires
-    add-at
-    add-i
-    loop-less
+    (λ c. omega arith)
+    (λ c. omega arith)
+    (λ c. omega arith)
+    (λ c. omega arith)
+    (λ c κs. omega arith)
+    (λ c. omega arith)
+    (λ c. omega arith)
+    (λ c. omega arith)
     loop-again
-    same-length
+    (λ c. omega arith)
     returns)

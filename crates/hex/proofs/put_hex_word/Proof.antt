@@ -6,60 +6,6 @@ use Rattle.hex.proofs.Digits.{hex-four}
 use Rattle.hex.proofs.put_hex_word.Statement.{statement}
 use Rattle.hex.proofs.put_hex_word.Tie as tie
 
-cast-put-hex-byte : tie.Need-cast-put-hex-byte
-cast-put-hex-byte c = omega arith
-
-put-hex-byte-requires : tie.Need-put-hex-byte-requires
-put-hex-byte-requires c κs = omega arith
-
-sub-put-hex-byte : tie.Need-sub-put-hex-byte
-sub-put-hex-byte c = omega arith
-
-part-put-hex-byte-start : tie.Need-part-put-hex-byte-start
-part-put-hex-byte-start c = omega arith
-
-part-put-hex-byte-end : tie.Need-part-put-hex-byte-end
-part-put-hex-byte-end c = omega arith
-
-cast-put-hex-byte-2 : tie.Need-cast-put-hex-byte-2
-cast-put-hex-byte-2 c = omega arith
-
-put-hex-byte-requires-2 : tie.Need-put-hex-byte-requires-2
-put-hex-byte-requires-2 c κs = omega arith
-
-sub-put-hex-byte-2 : tie.Need-sub-put-hex-byte-2
-sub-put-hex-byte-2 c = omega arith
-
-part-put-hex-byte-start-2 : tie.Need-part-put-hex-byte-start-2
-part-put-hex-byte-start-2 c = omega arith
-
-part-put-hex-byte-end-2 : tie.Need-part-put-hex-byte-end-2
-part-put-hex-byte-end-2 c = omega arith
-
-cast-put-hex-byte-3 : tie.Need-cast-put-hex-byte-3
-cast-put-hex-byte-3 c = omega arith
-
-put-hex-byte-requires-3 : tie.Need-put-hex-byte-requires-3
-put-hex-byte-requires-3 c κs = omega arith
-
-sub-put-hex-byte-3 : tie.Need-sub-put-hex-byte-3
-sub-put-hex-byte-3 c = omega arith
-
-part-put-hex-byte-start-3 : tie.Need-part-put-hex-byte-start-3
-part-put-hex-byte-start-3 c = omega arith
-
-part-put-hex-byte-end-3 : tie.Need-part-put-hex-byte-end-3
-part-put-hex-byte-end-3 c = omega arith
-
-cast-put-hex-byte-4 : tie.Need-cast-put-hex-byte-4
-cast-put-hex-byte-4 c = omega arith
-
-put-hex-byte-requires-4 : tie.Need-put-hex-byte-requires-4
-put-hex-byte-requires-4 c κs = omega arith
-
-same-length : tie.Need-same-length
-same-length c = omega arith
-
 returns : tie.Need-returns
 unfolding hexWord
 returns c =
@@ -75,22 +21,22 @@ pub put-hex-word-spec : {M : Type 1} → statement M
 put-hex-word-spec =
     tie.close
     (tie.spec
-    cast-put-hex-byte
-    put-hex-byte-requires
-    sub-put-hex-byte
-    part-put-hex-byte-start
-    part-put-hex-byte-end
-    cast-put-hex-byte-2
-    put-hex-byte-requires-2
-    sub-put-hex-byte-2
-    part-put-hex-byte-start-2
-    part-put-hex-byte-end-2
-    cast-put-hex-byte-3
-    put-hex-byte-requires-3
-    sub-put-hex-byte-3
-    part-put-hex-byte-start-3
-    part-put-hex-byte-end-3
-    cast-put-hex-byte-4
-    put-hex-byte-requires-4
-    same-length
+    (λ c. omega arith)
+    (λ c κs. omega arith)
+    (λ c. omega arith)
+    (λ c. omega arith)
+    (λ c. omega arith)
+    (λ c. omega arith)
+    (λ c κs. omega arith)
+    (λ c. omega arith)
+    (λ c. omega arith)
+    (λ c. omega arith)
+    (λ c. omega arith)
+    (λ c κs. omega arith)
+    (λ c. omega arith)
+    (λ c. omega arith)
+    (λ c. omega arith)
+    (λ c. omega arith)
+    (λ c κs. omega arith)
+    (λ c. omega arith)
     returns)

@@ -13,24 +13,6 @@ Inv-loop ring₀ from to w₀ i₀ ring w i = length ring ≡ length ring₀
 abbrev μ-loop : tie.MeasureT-loop
 μ-loop ring₀ from to w₀ i₀ ring w i = to - i
 
-loop-holds : tie.Need-loop-holds Inv-loop μ-loop
-loop-holds c = omega arith
-
-post-change-requires : tie.Need-post-change-requires Inv-loop μ-loop
-post-change-requires c κs = omega arith
-
-add-i : tie.Need-add-i Inv-loop μ-loop
-add-i c = omega arith
-
-loop-less : tie.Need-loop-less Inv-loop μ-loop
-loop-less c = omega arith
-
-loop-again : tie.Need-loop-again Inv-loop μ-loop
-loop-again c = omega arith
-
-same-length : tie.Need-same-length Inv-loop μ-loop
-same-length c = omega arith
-
 returns : tie.Need-returns Inv-loop μ-loop
 returns c = tt
 
@@ -40,10 +22,10 @@ post-changes-spec =
     (tie.spec
     Inv-loop
     μ-loop
-    loop-holds
-    post-change-requires
-    add-i
-    loop-less
-    loop-again
-    same-length
+    (λ c. omega arith)
+    (λ c κs. omega arith)
+    (λ c. omega arith)
+    (λ c. omega arith)
+    (λ c. omega arith)
+    (λ c. omega arith)
     returns)

@@ -31,53 +31,11 @@ replied c = omega (arith, count-fits _ _ _ _ (c .read-journal .ensures) (c .read
 listed : (c : tie.After-list-reply) → c .list-reply .result .count ≤ length (c .list-reply .last .0)
 listed c = omega (arith, count-fits _ _ _ _ (c .list-reply .ensures) (c .list-reply .kept .0), c .list-reply .kept .0)
 
-slice-aggregate-put : tie.Need-slice-aggregate-put
-slice-aggregate-put c = omega arith
-
-put-requires : tie.Need-put-requires
-put-requires c κs = omega arith
-
-sub-put : tie.Need-sub-put
-sub-put c = omega arith
-
-part-input-start : tie.Need-part-input-start
-part-input-start c = omega arith
-
-part-input-end : tie.Need-part-input-end
-part-input-end c = omega arith
-
-put-requires-2 : tie.Need-put-requires-2
-put-requires-2 c κs = omega arith
-
-sub-put-2 : tie.Need-sub-put-2
-sub-put-2 c = omega arith
-
-part-input-start-2 : tie.Need-part-input-start-2
-part-input-start-2 c = omega arith
-
 part-input-end-2 : tie.Need-part-input-end-2
 part-input-end-2 c = omega (arith, second (c .before))
 
-put-requires-3 : tie.Need-put-requires-3
-put-requires-3 c κs = omega arith
-
 slice-aggregate-read-journal : tie.Need-slice-aggregate-read-journal
 slice-aggregate-read-journal c = omega (arith, third (c .before .before))
-
-slice-aggregate-read-journal-2 : tie.Need-slice-aggregate-read-journal-2
-slice-aggregate-read-journal-2 c = omega arith
-
-read-journal-requires : tie.Need-read-journal-requires
-read-journal-requires c κs = omega arith
-
-print-refusal-requires : tie.Need-print-refusal-requires
-print-refusal-requires c κs = omega arith
-
-returns : tie.Need-returns
-returns c = omega arith
-
-slice-aggregate-list-reply : tie.Need-slice-aggregate-list-reply
-slice-aggregate-list-reply c = omega arith
 
 array-share-prefix-output : tie.Need-array-share-prefix-output
 array-share-prefix-output c = replied (c .before .before .before)
@@ -85,53 +43,38 @@ array-share-prefix-output c = replied (c .before .before .before)
 slice-aggregate-list-reply-2 : tie.Need-slice-aggregate-list-reply-2
 slice-aggregate-list-reply-2 c = sym (length-take-le _ _ (replied (c .before .before .before .before)))
 
-list-reply-requires : tie.Need-list-reply-requires
-list-reply-requires c κs = omega arith
-
 array-share-prefix-text : tie.Need-array-share-prefix-text
 array-share-prefix-text c = listed (c .before)
 
 slice-aggregate-print : tie.Need-slice-aggregate-print
 slice-aggregate-print c = sym (length-take-le _ _ (listed (c .before .before)))
 
-print-requires : tie.Need-print-requires
-print-requires c κs = omega arith
-
-slice-aggregate-get : tie.Need-slice-aggregate-get
-slice-aggregate-get c = omega arith
-
-get-requires : tie.Need-get-requires
-get-requires c κs = omega arith
-
-returns-2 : tie.Need-returns-2
-returns-2 c = omega arith
-
 pub read-once-spec : {M : Type 1} → statement M
 read-once-spec =
     tie.close
     (tie.spec
-    slice-aggregate-put
-    put-requires
-    sub-put
-    part-input-start
-    part-input-end
-    put-requires-2
-    sub-put-2
-    part-input-start-2
+    (λ c. omega arith)
+    (λ c κs. omega arith)
+    (λ c. omega arith)
+    (λ c. omega arith)
+    (λ c. omega arith)
+    (λ c κs. omega arith)
+    (λ c. omega arith)
+    (λ c. omega arith)
     part-input-end-2
-    put-requires-3
+    (λ c κs. omega arith)
     slice-aggregate-read-journal
-    slice-aggregate-read-journal-2
-    read-journal-requires
-    print-refusal-requires
-    returns
-    slice-aggregate-list-reply
+    (λ c. omega arith)
+    (λ c κs. omega arith)
+    (λ c κs. omega arith)
+    (λ c. omega arith)
+    (λ c. omega arith)
     array-share-prefix-output
     slice-aggregate-list-reply-2
-    list-reply-requires
+    (λ c κs. omega arith)
     array-share-prefix-text
     slice-aggregate-print
-    print-requires
-    slice-aggregate-get
-    get-requires
-    returns-2)
+    (λ c κs. omega arith)
+    (λ c. omega arith)
+    (λ c κs. omega arith)
+    (λ c. omega arith))

@@ -17,30 +17,6 @@ abbrev μ-loop : tie.MeasureT-loop
 loop-holds : tie.Need-loop-holds Inv-loop μ-loop
 loop-holds c = refl
 
-add-name : tie.Need-add-name Inv-loop μ-loop
-add-name c = omega arith
-
-add-name-2 : tie.Need-add-name-2 Inv-loop μ-loop
-add-name-2 c = omega arith
-
-cast-name : tie.Need-cast-name Inv-loop μ-loop
-cast-name c = omega arith
-
-slice-write-name : tie.Need-slice-write-name Inv-loop μ-loop
-slice-write-name c = omega arith
-
-add-i : tie.Need-add-i Inv-loop μ-loop
-add-i c = omega arith
-
-loop-less : tie.Need-loop-less Inv-loop μ-loop
-loop-less c = omega arith
-
-loop-again : tie.Need-loop-again Inv-loop μ-loop
-loop-again c = search needs
-
-same-length : tie.Need-same-length Inv-loop μ-loop
-same-length c = search needs
-
 returns : tie.Need-returns Inv-loop μ-loop
 returns c = tt
 
@@ -51,12 +27,12 @@ letters-spec =
     Inv-loop
     μ-loop
     loop-holds
-    add-name
-    add-name-2
-    cast-name
-    slice-write-name
-    add-i
-    loop-less
-    loop-again
-    same-length
+    (λ c. omega arith)
+    (λ c. omega arith)
+    (λ c. omega arith)
+    (λ c. omega arith)
+    (λ c. omega arith)
+    (λ c. omega arith)
+    (λ c. search needs)
+    (λ c. search needs)
     returns)

@@ -14,41 +14,8 @@ Inv-loop rows ring₀ last v₀ at₀ ring v at = length ring ≡ length ring₀
 abbrev μ-loop : tie.MeasureT-loop
 μ-loop rows ring₀ last v₀ at₀ ring v at = length rows - at
 
-loop-holds : tie.Need-loop-holds Inv-loop μ-loop
-loop-holds c = omega arith
-
-sub-if1 : tie.Need-sub-if1 Inv-loop μ-loop
-sub-if1 c = omega arith
-
-same-length : tie.Need-same-length Inv-loop μ-loop
-same-length c = omega arith
-
 returns : tie.Need-returns Inv-loop μ-loop
 returns c = tt
-
-add-end : tie.Need-add-end Inv-loop μ-loop
-add-end c = omega arith
-
-sub-call : tie.Need-sub-call Inv-loop μ-loop
-sub-call c = omega arith
-
-part-call-start : tie.Need-part-call-start Inv-loop μ-loop
-part-call-start c = omega arith
-
-part-call-end : tie.Need-part-call-end Inv-loop μ-loop
-part-call-end c = omega arith
-
-call-requires : tie.Need-call-requires Inv-loop μ-loop
-call-requires c κs = search needs
-
-loop-less : tie.Need-loop-less Inv-loop μ-loop
-loop-less c = omega arith
-
-loop-again : tie.Need-loop-again Inv-loop μ-loop
-loop-again c = omega arith
-
-same-length-2 : tie.Need-same-length-2 Inv-loop μ-loop
-same-length-2 c = omega arith
 
 returns-2 : tie.Need-returns-2 Inv-loop μ-loop
 returns-2 c = tt
@@ -59,16 +26,16 @@ run-spec =
     (tie.spec
     Inv-loop
     μ-loop
-    loop-holds
-    sub-if1
-    same-length
+    (λ c. omega arith)
+    (λ c. omega arith)
+    (λ c. omega arith)
     returns
-    add-end
-    sub-call
-    part-call-start
-    part-call-end
-    call-requires
-    loop-less
-    loop-again
-    same-length-2
+    (λ c. omega arith)
+    (λ c. omega arith)
+    (λ c. omega arith)
+    (λ c. omega arith)
+    (λ c κs. search needs)
+    (λ c. omega arith)
+    (λ c. omega arith)
+    (λ c. omega arith)
     returns-2)

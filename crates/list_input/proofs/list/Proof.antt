@@ -24,38 +24,11 @@ inside c =
 counted : (c : tie.After-list-reply) → c .list-reply .result .count ≤ length (c .list-reply .last .0)
 counted c = omega (arith, count-fits _ _ _ _ (c .list-reply .ensures) (c .list-reply .kept .0), c .list-reply .kept .0)
 
-slice-aggregate-read-all : tie.Need-slice-aggregate-read-all
-slice-aggregate-read-all c = omega arith
-
-read-all-requires : tie.Need-read-all-requires
-read-all-requires c κs = omega arith
-
-enum-known-read : tie.Need-enum-known-read
-enum-known-read c = omega arith
-
-enum-told : tie.Need-enum-told
-enum-told c = omega arith
-
-slice-aggregate-fail : tie.Need-slice-aggregate-fail
-slice-aggregate-fail c = omega arith
-
-fail-requires : tie.Need-fail-requires
-fail-requires c κs = omega arith
-
-returns : tie.Need-returns
-returns c = omega arith
-
-slice-aggregate-list-reply : tie.Need-slice-aggregate-list-reply
-slice-aggregate-list-reply c = omega arith
-
 array-share-prefix-input : tie.Need-array-share-prefix-input
 array-share-prefix-input c = inside (c .before .before)
 
 slice-aggregate-list-reply-2 : tie.Need-slice-aggregate-list-reply-2
 slice-aggregate-list-reply-2 c = sym (length-take-le _ _ (inside (c .before .before .before)))
-
-list-reply-requires : tie.Need-list-reply-requires
-list-reply-requires c κs = omega arith
 
 array-share-prefix-text : tie.Need-array-share-prefix-text
 array-share-prefix-text c = counted (c .before)
@@ -63,40 +36,25 @@ array-share-prefix-text c = counted (c .before)
 slice-aggregate-write-all : tie.Need-slice-aggregate-write-all
 slice-aggregate-write-all c = sym (length-take-le _ _ (counted (c .before .before)))
 
-write-all-requires : tie.Need-write-all-requires
-write-all-requires c κs = omega arith
-
-slice-aggregate-fail-2 : tie.Need-slice-aggregate-fail-2
-slice-aggregate-fail-2 c = omega arith
-
-fail-requires-2 : tie.Need-fail-requires-2
-fail-requires-2 c κs = omega arith
-
-returns-2 : tie.Need-returns-2
-returns-2 c = omega arith
-
-returns-3 : tie.Need-returns-3
-returns-3 c = omega arith
-
 pub list-spec : {M : Type 1} → statement M
 list-spec =
     tie.close
     (tie.spec
-    slice-aggregate-read-all
-    read-all-requires
-    enum-known-read
-    enum-told
-    slice-aggregate-fail
-    fail-requires
-    returns
-    slice-aggregate-list-reply
+    (λ c. omega arith)
+    (λ c κs. omega arith)
+    (λ c. omega arith)
+    (λ c. omega arith)
+    (λ c. omega arith)
+    (λ c κs. omega arith)
+    (λ c. omega arith)
+    (λ c. omega arith)
     array-share-prefix-input
     slice-aggregate-list-reply-2
-    list-reply-requires
+    (λ c κs. omega arith)
     array-share-prefix-text
     slice-aggregate-write-all
-    write-all-requires
-    slice-aggregate-fail-2
-    fail-requires-2
-    returns-2
-    returns-3)
+    (λ c κs. omega arith)
+    (λ c. omega arith)
+    (λ c κs. omega arith)
+    (λ c. omega arith)
+    (λ c. omega arith))

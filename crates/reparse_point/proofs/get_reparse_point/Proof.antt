@@ -10,17 +10,8 @@ use Rattle.reparse_point.proofs.get_reparse_point.Tie as tie
 judge-reparse-requires : tie.Need-judge-reparse-requires
 judge-reparse-requires c κs = tt
 
-enum-known-call : tie.Need-enum-known-call
-enum-known-call c = omega arith
-
 refused-requires : tie.Need-refused-requires
 refused-requires c κs = tt
-
-enum-told : tie.Need-enum-told
-enum-told c = omega arith
-
-slice-aggregate-put-reparse : tie.Need-slice-aggregate-put-reparse
-slice-aggregate-put-reparse c = search needs
 
 put-reparse-requires : tie.Need-put-reparse-requires
 put-reparse-requires c κs =
@@ -41,9 +32,6 @@ returns c =
     let a = j .before .before .before .args in
     reply-refused (a .v) (a .f) (a .bytes .now) (a .output .now) (m .call .given .0 .0) (c .refused .result) (sym (m .call .given .1) ∙ j .judge-reparse .ensures (a .f) refl) (c .refused .ensures)
 
-same-length : tie.Need-same-length
-same-length c = omega arith
-
 returns-2 : tie.Need-returns-2
 returns-2 c =
     let y = c .before .before .before in
@@ -59,12 +47,12 @@ get-reparse-point-spec =
     tie.close
     (tie.spec
     judge-reparse-requires
-    enum-known-call
+    (λ c. omega arith)
     refused-requires
-    enum-told
-    slice-aggregate-put-reparse
+    (λ c. omega arith)
+    (λ c. search needs)
     put-reparse-requires
     success-requires
     returns
-    same-length
+    (λ c. omega arith)
     returns-2)

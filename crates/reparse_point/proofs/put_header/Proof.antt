@@ -14,14 +14,8 @@ sub-put-two c = let s = c .before .before .before .before .before .before in ome
 part-put-two-start : tie.Need-part-put-two-start
 part-put-two-start c = let s = c .before .before .before .before .before .before in omega (arith, header-least (s .args .tag))
 
-part-put-two-end : tie.Need-part-put-two-end
-part-put-two-end c = omega arith
-
 put-two-requires : tie.Need-put-two-requires
 put-two-requires c κs = let s = c .before .before .before .before .before .before .before in omega (arith, header-least (s .args .tag))
-
-same-length : tie.Need-same-length
-same-length c = omega arith
 
 sub-copy : tie.Need-sub-copy
 sub-copy c = let s = c .before .before .before .before .before .before .before .before .before .before .before in omega (arith, header-least (s .args .tag))
@@ -29,17 +23,11 @@ sub-copy c = let s = c .before .before .before .before .before .before .before .
 part-copy-start : tie.Need-part-copy-start
 part-copy-start c = let s = c .before .before .before .before .before .before .before .before .before .before .before in omega (arith, header-least (s .args .tag))
 
-part-copy-end : tie.Need-part-copy-end
-part-copy-end c = omega arith
-
 copy-requires : tie.Need-copy-requires
 copy-requires c κs =
     let k = c .before in
     let s = k .before .before .before .before .before .before .before .before .before .before .before in
     omega (arith, header-whole (s .args .tag) (k .if1 .left))
-
-same-length-2 : tie.Need-same-length-2
-same-length-2 c = omega arith
 
 returns : tie.Need-returns
 returns c =
@@ -67,13 +55,13 @@ put-header-spec =
     put-requires
     sub-put-two
     part-put-two-start
-    part-put-two-end
+    (λ c. omega arith)
     put-two-requires
-    same-length
+    (λ c. omega arith)
     returns
     sub-copy
     part-copy-start
-    part-copy-end
+    (λ c. omega arith)
     copy-requires
-    same-length-2
+    (λ c. omega arith)
     returns-2)

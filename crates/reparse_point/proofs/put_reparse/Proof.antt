@@ -23,26 +23,8 @@ within j =
 header-length-requires : tie.Need-header-length-requires
 header-length-requires c κs = tt
 
-sub-room : tie.Need-sub-room
-sub-room c = omega arith
-
 put-header-requires : tie.Need-put-header-requires
 put-header-requires c κs = omega (arith, within (c .before))
-
-sub-copy : tie.Need-sub-copy
-sub-copy c = omega arith
-
-part-copy-start : tie.Need-part-copy-start
-part-copy-start c = omega arith
-
-part-copy-end : tie.Need-part-copy-end
-part-copy-end c = omega arith
-
-sub-copy-2 : tie.Need-sub-copy-2
-sub-copy-2 c = omega arith
-
-part-copy-start-2 : tie.Need-part-copy-start-2
-part-copy-start-2 c = omega arith
 
 part-copy-end-2 : tie.Need-part-copy-end-2
 part-copy-end-2 c = let j = c .before .before .before .before .before .before in omega (arith, within j)
@@ -63,9 +45,6 @@ add-result c =
     let s = h .before .before .before .before in
     record { fits = omega (arith, within j, s .pre .2, h .header-length .ensures .1) }
 
-same-length : tie.Need-same-length
-same-length c = omega arith
-
 returns : tie.Need-returns
 returns c =
     let z = c .before .before in
@@ -82,15 +61,15 @@ put-reparse-spec =
     tie.close
     (tie.spec
     header-length-requires
-    sub-room
+    (λ c. omega arith)
     put-header-requires
-    sub-copy
-    part-copy-start
-    part-copy-end
-    sub-copy-2
-    part-copy-start-2
+    (λ c. omega arith)
+    (λ c. omega arith)
+    (λ c. omega arith)
+    (λ c. omega arith)
+    (λ c. omega arith)
     part-copy-end-2
     copy-requires
     add-result
-    same-length
+    (λ c. omega arith)
     returns)
