@@ -30,8 +30,8 @@ abbrev pub fresh : ℕ → Filter → Reader
 fresh start f = record { start = start; filter = f; position = start; handed = [] }
 
 -- the reader once a reply has come: it stands at the reply's position and has its records
-abbrev pub moved : Read → List ℕ → Reader → Reader
-moved a bytes d =
+abbrev pub advanced : Read → List ℕ → Reader → Reader
+advanced a bytes d =
     record {
       start = d .start;
       filter = d .filter;
@@ -42,7 +42,7 @@ moved a bytes d =
 -- only a SUCCESS reply moves it or hands it anything
 abbrev pub told : Read → Reply → Reader → Reader
 told a (refuse x) d = d
-told a (give x bytes) d = cond (eqb (number x) 0) (moved a bytes d) d
+told a (give x bytes) d = cond (eqb (number x) 0) (advanced a bytes d) d
 
 -- a call of the list, with the choice whether it is this reader's
 pub data Turn : Type 0 where
