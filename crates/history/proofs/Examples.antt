@@ -13,15 +13,15 @@ use Rattle.status.specs.declared.Status.the-variants.{Success, InvalidParameter
 use Rattle.status.specs.Reply.{Reply, refuse, give}
 use Rattle.volume.specs.State.{goodCapacity, goodPosition}
 use Rattle.usn_record.specs.declared.Version.the-variants.{V2}
-use Rattle.usn_record.specs.Layout.{goodName, Record}
-use Rattle.reply_walker.specs.Reply.{joined}
+use Rattle.usn_record.specs.Layout.{goodName, Record, inVersion}
+use Rattle.records.specs.Records.{joined}
 use Rattle.journal.specs.Boundary.{recordsAfter}
 use Rattle.journal_post.specs.declared.Change.{Change}
 use Rattle.journal_post.specs.Post.{postedName, recordOf}
 use Rattle.journal_page.specs.declared.Filter.{Filter}
 use Rattle.journal_read.specs.Input.{argumentCheck}
 use Rattle.journal_page.specs.Select.{wanted}
-use Rattle.journal_page.specs.Page.{inVersion, fits, pageOf, pageReply}
+use Rattle.journal_page.specs.Page.{fits, pageOf, pageReply}
 use Rattle.journal_read.specs.Read.{isDeleted, origin, deletedCheck, readAnswer}
 use Rattle.history.specs.Calls.{Read, Call, create, post, read, Journal, replyTo, outcome, next, runs, Widths, AllTyped}
 use Rattle.history.specs.Log.{History, posted, opened, isPosted, shed, added, notePost, notes}
