@@ -322,7 +322,11 @@ fn the_three_have_the_same_calls() {
 
     let wrapper = calls(between(&source(WRAPPER), "extern \"C\" {", "}"), "pub fn ");
     assert!(wrapper.keys().eq(header.keys()), "{:?}", wrapper.keys());
-    for (name, signature) in &wrapper {
+    let stores = calls(
+        between(&source("rust/tests/stores.rs"), "extern \"C\" {", "}"),
+        "fn ",
+    );
+    for (name, signature) in wrapper.iter().chain(&stores) {
         assert_eq!(*signature, header[name], "{name}");
     }
 
