@@ -478,7 +478,8 @@ impl Volume {
     /// The input has StartUsn `i64`, ReasonMask `u32`, ReturnOnlyOnClose `u32`,
     /// Timeout and BytesToWaitFor `u64` (both ignored), the journal's id `u64`
     /// and, from 48 bytes on, the lowest and highest version `u16`. The reply is
-    /// the position to go on with, `u64`, and the selected records behind it.
+    /// the position to go on with, `u64`, and the selected records behind it, up
+    /// to the first that does not fit.
     ///
     /// Refusals, in order: [`Status::InvalidDeviceRequest`] without a journal on
     /// the volume; [`Status::JournalDeleteInProgress`];
