@@ -17,7 +17,8 @@ use lanhduxe::{Change, Volume};
 use std::mem::size_of;
 use std::ptr;
 
-const CALLS: u64 = 100_000;
+/// How often each of the four is called.
+const CALLS: u64 = 25_000;
 
 // The library's calls as C has them: a record on a read-only page may not be
 // borrowed.
@@ -275,6 +276,11 @@ fn try_calls(test: &'static str, expected: &[Status], draw: impl Fn(&mut Rng) ->
             add(end, [true, false]);
         }
     }
+    let changing = cases.iter().filter(|case| case.cut != 0).count();
+    assert!(
+        changing > 1000 && cases.len() - changing > 1000,
+        "{test}: {changing}"
+    );
     let outcomes = run(&cases, &ring).unwrap_or_else(|(number, signal)| {
         let case = &cases[number];
         panic!("{test}: call {number} was killed by signal {signal}: it stores too much\n{case:?}")
