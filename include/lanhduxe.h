@@ -1,19 +1,30 @@
 /*
- * The C interface of the library: a volume's change journal and four controls on it and on its files.
+ * The C interface of the library: a volume's change journal and four controls on it and on its files. docs/USING.md says how a
+ * server works with it.
  *
  * Build the library with `rt staticlib lanhduxe` and link target/staticlib/liblanhduxe.a (x86-64 Linux). It calls no function but
  * memcpy and memset, allocates nothing and keeps nothing between calls.
  *
- * Memory. Every buffer is lent for the time of one call, as a pointer and a length; with a length of 0 the pointer may be NULL. What
- * a call may write (a post's ring, an output, *volume, *usn) must not overlap anything else that is lent to it. A struct that is
- * passed by value is only read.
+ * Memory. Every buffer is lent for the time of one call, as a pointer and a length; with a length of 0 the pointer may be NULL. The
+ * pointers `volume` and `usn` must not be NULL. What a call may write (a post's ring, an output, *volume, *usn) must not overlap
+ * anything else that is lent to it, and nobody else may use it meanwhile. A struct that is passed by value is only read.
  *
  * Answers. A status other than USN_SUCCESS is a refusal: it reports 0 bytes and has changed no buffer and no record. With
  * USN_SUCCESS the output holds `count` bytes of reply, and its bytes behind them are as they were. Each call gives the first status
  * that applies, in the order listed with it.
  *
- * Numbers of 64 bits are bit patterns; where a layout has a signed one, 2^63 and above is negative. Replies and inputs are
- * little-endian, laid out as [MS-FSCC] has them.
+ * The volume record. Only create, delete, finish and post store anything in *volume, and of it only the fields that are named with
+ * the call. Where such a call refuses or skips, it stores nothing there, not even what it found.
+ *
+ * The ring. Post and read are lent a ring of `capacity` bytes, in which the byte at position p stands at p modulo the capacity. It is
+ * sound if the capacity is right and the lent length equal to it, and from `first` to `last`, at most a capacity apart, there are whole
+ * and right records.
+ *
+ * Numbers. Replies and inputs are little-endian, laid out as [MS-FSCC] has them. A number of 64 bits is passed as its bit pattern;
+ * where a layout has a signed one (i64), 2^63 and above is negative.
+ *
+ * Versions. A caller names the lowest and the highest version of a record that it can read. The reply has version 3 if the highest is
+ * 3 or more, else version 2. Both are refused if the lowest is above the highest or above 3, or the highest below 2.
  */
 #ifndef LANHDUXE_H
 #define LANHDUXE_H
@@ -24,6 +35,12 @@
 #ifdef __cplusplus
 extern "C" {
 #endif
+
+/*
+ * The version of this interface. It changes with every change of a struct or a call: a program that was compiled with another one
+ * must be compiled again. Since version 2 the library is called lanhduxe, and this header lays out numbers and inputs.
+ */
+#define LANHDUXE_VERSION 2
 
 /* ---- Statuses, by the numbers of [MS-ERREF] ---- */
 
@@ -40,6 +57,21 @@ extern "C" {
 #define USN_JOURNAL_NOT_ACTIVE         0xC00002B8u
 #define USN_JOURNAL_ENTRY_DELETED      0xC00002CFu
 
+/* ---- States of a journal ---- */
+
+#define USN_STATE_IDLE     0u /* any other number is idle too */
+#define USN_STATE_ACTIVE   1u
+#define USN_STATE_DELETING 2u
+
+/* ---- Limits ---- */
+
+#define USN_NAME_MAX       510u                         /* bytes of a name */
+#define USN_CAPACITY_MIN   1024u                        /* bytes of a ring, always a multiple of 8 */
+#define USN_CAPACITY_MAX   65536u
+#define USN_READ_ROOM      600u                         /* an output of so many bytes always brings a reader on */
+#define USN_POSITION_LIMIT UINT64_C(0x8000000000000000) /* 2^63, the first number that is no position and no Usn */
+#define USN_LIST_MAX       65536u                       /* bytes of a reply that usn_list_reply lists */
+
 /* ---- Records ---- */
 
 /* What a volume supports, and its journal. A flag is 0 for no and any other number for yes. */
@@ -49,11 +81,11 @@ typedef struct usn_volume {
     uint32_t reparse;  /* usn_get_reparse_point */
     uint32_t points;   /* reparse points at all */
     uint32_t journal;  /* usn_post and usn_read_journal */
-    uint32_t state;    /* 1 active, 2 deleting, any other number idle */
+    uint32_t state;    /* one of USN_STATE_ */
     uint64_t id;       /* the journal's id, or the last one used */
-    uint64_t first;    /* the position of the oldest kept record */
-    uint64_t last;     /* the position behind the newest record, LastUsn */
-    uint64_t capacity; /* the ring's length, a multiple of 8 from 1,024 to 65,536 */
+    uint64_t first;    /* the position of the oldest kept record, a multiple of 8 */
+    uint64_t last;     /* the position behind the newest record, LastUsn, a multiple of 8 */
+    uint64_t capacity; /* the ring's length */
 } usn_volume;
 
 /* What a post says of a change, but for the name. */
@@ -70,8 +102,8 @@ typedef struct usn_change {
 /* A file's record. */
 typedef struct usn_file {
     uint64_t id;
-    uint64_t usn;        /* below 2^63 */
-    uint64_t eof;        /* below 2^63 */
+    uint64_t usn;        /* the Usn of its last change, below 2^63 */
+    uint64_t eof;        /* its length, below 2^63 */
     uint64_t valid;      /* valid data length, at most eof */
     uint32_t attributes; /* 0 is written as 0x80 */
     uint32_t tag;        /* the reparse tag, 0 for none; bit 31 says Microsoft's */
@@ -81,7 +113,7 @@ typedef struct usn_file {
 /* One link of a file. */
 typedef struct usn_link {
     uint32_t place;        /* where its name begins in the name pool */
-    uint32_t length;       /* the name's length in bytes: even, 0 to 510, inside the pool */
+    uint32_t length;       /* the name's length in bytes: even, 0 to USN_NAME_MAX, inside the pool */
     uint32_t short_length; /* its short name's length; only 0 or not matters */
 } usn_link;
 
@@ -118,42 +150,87 @@ typedef struct usn_walk {
     uint64_t bad;      /* where refused: the place of the first bad record, 0 below 8 bytes */
 } usn_walk;
 
+/* ---- Numbers in inputs and replies ---- */
+
+/* Writes the lowest `width` bytes of a number, at most 8. */
+static inline void usn_put_number(uint8_t *bytes, uint64_t number, size_t width)
+{
+    for (size_t i = 0; i < width; i++)
+        bytes[i] = (number >> (8 * i)) & 0xFF;
+}
+
+/* Reads a number of `width` bytes, at most 8. */
+static inline uint64_t usn_get_number(const uint8_t *bytes, size_t width)
+{
+    uint64_t number = 0;
+    while (width > 0)
+        number = (number << 8) | bytes[--width];
+    return number;
+}
+
 /* ---- The journal ---- */
 
 /*
- * Creates a journal with a new id, empty at the kept `last`. Changes state, id and first of *volume.
+ * Creates a journal with a new id, empty at the kept `last`. Stores state, id and first.
  * JOURNAL_DELETE_IN_PROGRESS while deleting; INVALID_PARAMETER if active, or if the id is 0 or the last one used;
  * FILE_CORRUPT_ERROR for a wrong capacity or LastUsn.
  */
 uint32_t usn_create(usn_volume *volume, uint64_t id);
 
 /*
- * Begins to delete the journal. Changes the state of *volume.
+ * Begins to delete the journal. Stores the state.
  * JOURNAL_DELETE_IN_PROGRESS while deleting; JOURNAL_NOT_ACTIVE if idle; INVALID_PARAMETER for a wrong id.
  */
 uint32_t usn_delete(usn_volume *volume, uint64_t id);
 
 /*
- * Ends a deletion. Changes the state of *volume.
+ * Ends a deletion. Stores the state.
  * JOURNAL_NOT_ACTIVE if idle; INVALID_PARAMETER if active.
  */
 uint32_t usn_finish(usn_volume *volume);
 
 /*
- * Posts a change to the file of this name. The oldest records are dropped, as few as needed, the new record's bytes are written to
- * the ring and no others; changes first and last of *volume, and *usn, the file's Usn, to the record's Usn, the new LastUsn.
+ * Posts a change to the file of this name. The oldest records are dropped, as few as needed, and the new record's bytes are written to
+ * the ring and no others. Stores first and last, and in *usn, the file's Usn, the record's Usn, which is the new LastUsn.
  * Skipped, USN_SUCCESS with nothing changed: no support for the journal, no active journal, or reason 0.
- * FILE_CORRUPT_ERROR for a ring that is not sound; INVALID_PARAMETER for a name that is odd, empty or above 510 bytes;
- * DISK_FULL if the record is longer than the capacity or LastUsn would pass 2^63 - 1.
+ * FILE_CORRUPT_ERROR for a ring that is not sound; INVALID_PARAMETER for a name that is odd, empty or above USN_NAME_MAX bytes;
+ * DISK_FULL if the record is longer than the capacity or LastUsn would reach USN_POSITION_LIMIT.
  */
 uint32_t usn_post(usn_volume *volume, uint8_t *ring, size_t ring_size, usn_change change,
                   const uint8_t *name, size_t name_size, uint64_t *usn);
 
+/* What a read of the journal asks for: records with a bit of the mask, from a position on. */
+typedef struct usn_read_input {
+    uint64_t start;         /* a position, the last reply's; 0 for the oldest kept record */
+    uint32_t mask;          /* the reasons to select */
+    uint32_t only_on_close; /* if not 0, select only records whose reason has bit 31 */
+    uint64_t id;            /* the journal's id */
+    uint16_t lowest;        /* the versions */
+    uint16_t highest;
+} usn_read_input;
+
+#define USN_READ_INPUT_SIZE 48
+
+/* Lays out the input of usn_read_journal. */
+static inline void usn_put_read_input(uint8_t bytes[USN_READ_INPUT_SIZE], usn_read_input input)
+{
+    usn_put_number(bytes, input.start, 8);
+    usn_put_number(bytes + 8, input.mask, 4);
+    usn_put_number(bytes + 12, input.only_on_close, 4);
+    usn_put_number(bytes + 16, 0, 8);
+    usn_put_number(bytes + 24, 0, 8);
+    usn_put_number(bytes + 32, input.id, 8);
+    usn_put_number(bytes + 40, input.lowest, 2);
+    usn_put_number(bytes + 42, input.highest, 2);
+    usn_put_number(bytes + 44, 0, 4);
+}
+
 /*
- * Reads the journal: a position of 8 bytes, then the selected records, as many as fit (FSCTL_READ_USN_JOURNAL). A reader returns
- * with each reply's position as its next StartUsn.
- * Input: StartUsn u64, ReasonMask u32, ReturnOnlyOnClose u32, Timeout u64, BytesToWaitFor u64, id u64; from 48 bytes on also the
- * lowest and highest version, u16 each. StartUsn 0 means the oldest kept record.
+ * Reads the journal: a position of 8 bytes, then the selected records, up to the first that does not fit (FSCTL_READ_USN_JOURNAL). A
+ * reader returns with each reply's position as its next StartUsn.
+ * Input: StartUsn i64, ReasonMask u32, ReturnOnlyOnClose u32, Timeout u64 and BytesToWaitFor u64 (both ignored), id u64; from 48 bytes
+ * on also the lowest and highest version, u16 each, else the version is 2. StartUsn 0 means the oldest kept record. It is signed: -8
+ * lies before every position and is JOURNAL_ENTRY_DELETED.
  * INVALID_DEVICE_REQUEST without support; JOURNAL_DELETE_IN_PROGRESS; JOURNAL_NOT_ACTIVE; INVALID_PARAMETER below 40 bytes of
  * input; BUFFER_TOO_SMALL below 8 bytes of output; INVALID_PARAMETER for the versions, then for the id; FILE_CORRUPT_ERROR for a
  * ring that is not sound; JOURNAL_ENTRY_DELETED for a start before the first position; INVALID_PARAMETER for one past LastUsn or
@@ -162,12 +239,18 @@ uint32_t usn_post(usn_volume *volume, uint8_t *ring, size_t ring_size, usn_chang
 usn_answer usn_read_journal(usn_volume volume, const uint8_t *ring, size_t ring_size,
                             const uint8_t *input, size_t input_size, uint8_t *output, size_t output_size);
 
+/* The position of a reply of usn_read_journal; the reply has 8 bytes at least. */
+static inline uint64_t usn_reply_position(const uint8_t *reply)
+{
+    return usn_get_number(reply, 8);
+}
+
 /* ---- Controls on one file ---- */
 
 /*
  * Gives a USN record of the file as it is now (FSCTL_READ_FILE_USN_DATA). `parent` is that of the open's own link; the name is that
  * of the first link with a short name; with no such link, of the first whose name is not empty; else an empty one.
- * Input: nothing, or the lowest and highest version, u16 each.
+ * Input: the lowest and highest version, u16 each; below 4 bytes the version is 2.
  * INVALID_DEVICE_REQUEST without support; FILE_CORRUPT_ERROR for a negative Usn or a bad link; INVALID_PARAMETER for the versions;
  * BUFFER_TOO_SMALL below 64 bytes of output (version 3: 80), then below the record's length.
  */
@@ -177,10 +260,11 @@ usn_answer usn_read_file(usn_volume volume, usn_file file, uint64_t parent, cons
 
 /*
  * Gives the file's regions (FSCTL_QUERY_FILE_REGIONS): that of valid data, and the rest of the file.
- * Input: nothing, or FileOffset u64, Length u64, DesiredUsage u32, 4 bytes that are ignored.
- * INVALID_DEVICE_REQUEST without support; FILE_CORRUPT_ERROR for wrong sizes; BUFFER_TOO_SMALL for 1 to 23 bytes of input;
- * INVALID_PARAMETER for a Length that is not above 0, an end past 2^63 - 1, or a usage without flag 1; BUFFER_TOO_SMALL below 40
- * bytes of output; BUFFER_OVERFLOW where a second region is due and the output is below 64.
+ * Input: FileOffset i64 and Length i64, both signed, DesiredUsage u32, 4 bytes that are ignored; or nothing, for the whole file and
+ * usage 1.
+ * INVALID_DEVICE_REQUEST without support; FILE_CORRUPT_ERROR for a wrong eof or valid; BUFFER_TOO_SMALL for 1 to 23 bytes of input;
+ * INVALID_PARAMETER for a Length that is not above 0, a negative FileOffset, an end past 2^63 - 1, or a usage without flag 1;
+ * BUFFER_TOO_SMALL below 40 bytes of output; BUFFER_OVERFLOW where a second region is due and the output is below 64.
  */
 usn_answer usn_query_file_regions(usn_volume volume, usn_file file, const uint8_t *input, size_t input_size,
                                   uint8_t *output, size_t output_size);
@@ -202,9 +286,13 @@ usn_record usn_read_record(const uint8_t *bytes, size_t size, size_t at);
 /* Walks a whole reply of usn_read_journal. INVALID_PARAMETER, with the place, where it is bad. */
 usn_walk usn_walk_reply(const uint8_t *reply, size_t size);
 
+/* The room that the text of a reply wants. */
+#define USN_LIST_ROOM(size) (64 + 2 * (size))
+
 /*
- * Lists a reply as text: its position, a line for each record, and their number; or where it is bad.
- * BUFFER_TOO_SMALL for an output below 64 bytes and twice the reply's size.
+ * Lists a reply as text: its position, a line for each record, and their number. No NUL ends the text. A bad reply is listed too, with
+ * USN_SUCCESS: as `bad at` and the place of the first bad record, and one above USN_LIST_MAX bytes as `bad at 65536`.
+ * BUFFER_TOO_SMALL for an output below USN_LIST_ROOM(size).
  */
 usn_answer usn_list_reply(const uint8_t *reply, size_t size, uint8_t *output, size_t output_size);
 

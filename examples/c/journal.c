@@ -1,10 +1,11 @@
 /*
- * Creates a journal, posts three changes to two files, reads them back in two replies, and lists each reply as text.
+ * Calls every function of the interface: creates a journal, posts three changes to two files, reads them back in two replies, asks the
+ * controls on one of the files, and deletes the journal.
  * Build and run: examples/c/run
  */
+#include <inttypes.h>
 #include <stdio.h>
 #include <stdlib.h>
-#include <string.h>
 
 #include "lanhduxe.h"
 
@@ -13,24 +14,14 @@ enum { CAPACITY = 4096, ID = 7 };
 static void expect(const char *call, uint32_t status)
 {
     if (status != USN_SUCCESS) {
-        fprintf(stderr, "%s: status 0x%08X\n", call, status);
+        fprintf(stderr, "%s: status 0x%08" PRIX32 "\n", call, status);
         exit(1);
     }
 }
 
-static void put(uint8_t *at, uint64_t value, size_t width)
+/* A file is made, written and closed; another is made. Names are UTF-16. */
+static void post_changes(usn_volume *volume, uint8_t *ring)
 {
-    for (size_t i = 0; i < width; i++)
-        at[i] = (uint8_t)(value >> (8 * i));
-}
-
-int main(void)
-{
-    static uint8_t ring[CAPACITY];
-    usn_volume volume = { .journal = 1, .capacity = CAPACITY };
-    expect("usn_create", usn_create(&volume, ID));
-
-    /* a file is made, written and closed; another is made. Names are UTF-16. */
     static const struct { uint64_t file; uint32_t reason; const char *name; size_t size; } posts[] = {
         { 41, 0x00000100, "t\0a\0b\0l\0e\0", 10 },
         { 41, 0x80000102, "t\0a\0b\0l\0e\0", 10 },
@@ -39,33 +30,68 @@ int main(void)
     for (size_t i = 0; i < sizeof posts / sizeof *posts; i++) {
         usn_change change = { .file = posts[i].file, .parent = 5, .reason = posts[i].reason };
         uint64_t usn = 0;
-        expect("usn_post", usn_post(&volume, ring, sizeof ring, change, (const uint8_t *)posts[i].name, posts[i].size, &usn));
-        printf("posted file %llu, Usn %llu\n", (unsigned long long)posts[i].file, (unsigned long long)usn);
+        expect("usn_post", usn_post(volume, ring, CAPACITY, change, (const uint8_t *)posts[i].name, posts[i].size, &usn));
+        printf("posted file %" PRIu64 ", Usn %" PRIu64 "\n", posts[i].file, usn);
     }
+}
 
-    /* each read goes on where the one before ended: StartUsn is the last reply's position */
-    uint8_t input[48] = { 0 }, output[200];
-    put(input + 8, 0xFFFFFFFF, 4);
-    put(input + 32, ID, 8);
-    put(input + 40, 2, 2);
-    put(input + 42, 2, 2);
-    for (;;) {
-        usn_answer answer = usn_read_journal(volume, ring, sizeof ring, input, sizeof input, output, sizeof output);
+/* Each read goes on where the one before ended: its start is the last reply's position. */
+static void read_changes(const usn_volume *volume, const uint8_t *ring)
+{
+    static uint8_t output[200], text[USN_LIST_ROOM(sizeof output)];
+    usn_read_input wanted = { .start = 0, .mask = 0xFFFFFFFF, .id = ID, .lowest = 2, .highest = 2 };
+    while (wanted.start != volume->last) {
+        uint8_t input[USN_READ_INPUT_SIZE];
+        usn_put_read_input(input, wanted);
+        usn_answer answer = usn_read_journal(*volume, ring, CAPACITY, input, sizeof input, output, sizeof output);
         expect("usn_read_journal", answer.status);
-        usn_walk walk = usn_walk_reply(output, answer.count);
-        expect("usn_walk_reply", walk.status);
 
-        static uint8_t text[64 + 2 * sizeof output];
         usn_answer listed = usn_list_reply(output, answer.count, text, sizeof text);
         expect("usn_list_reply", listed.status);
         fwrite(text, 1, listed.count, stdout);
 
-        put(input, walk.position, 8);
-        if (walk.position == volume.last)
-            break;
+        usn_walk walk = usn_walk_reply(output, answer.count);
+        expect("usn_walk_reply", walk.status);
+        wanted.start = walk.position;
     }
+}
 
+/* The controls on the first file: 60 of its 100 bytes are valid, it has two links, and it is a reparse point. */
+static void ask_file(const usn_volume *volume)
+{
+    static const uint8_t pool[] = "t\0a\0b\0l\0e\0T\0", data[20] = { 0 };
+    static const usn_link links[] = { { .place = 10, .length = 2 }, { .place = 0, .length = 10, .short_length = 10 } };
+    usn_file file = { .id = 41, .usn = 176, .eof = 100, .valid = 60, .tag = 0xA000000C };
+    uint8_t output[USN_READ_ROOM];
+
+    usn_answer answer = usn_read_file(*volume, file, 5, pool, 12, links, 2, NULL, 0, output, sizeof output);
+    expect("usn_read_file", answer.status);
+    usn_record record = usn_read_record(output, answer.count, 0);
+    expect("usn_read_record", record.status);
+    printf("file %" PRIu64 " in %" PRIu64 ", Usn %" PRIu64 ", name of %" PRIu64 " bytes, first %c\n",
+           record.file, record.parent, record.usn, record.length, output[record.name]);
+
+    answer = usn_query_file_regions(*volume, file, NULL, 0, output, sizeof output);
+    expect("usn_query_file_regions", answer.status);
+    for (size_t at = 16; at < answer.count; at += 24)
+        printf("region at %" PRIu64 ", length %" PRIu64 ", usage %" PRIu64 "\n", usn_get_number(output + at, 8),
+               usn_get_number(output + at + 8, 8), usn_get_number(output + at + 16, 4));
+
+    answer = usn_get_reparse_point(*volume, file, data, sizeof data, output, sizeof output);
+    expect("usn_get_reparse_point", answer.status);
+    printf("reparse tag %08" PRIX64 ", %" PRIu64 " bytes of data\n", usn_get_number(output, 4), usn_get_number(output + 4, 2));
+}
+
+int main(void)
+{
+    static uint8_t ring[CAPACITY];
+    usn_volume volume = { .usn = 1, .regions = 1, .reparse = 1, .points = 1, .journal = 1, .capacity = CAPACITY };
+    expect("usn_create", usn_create(&volume, ID));
+    post_changes(&volume, ring);
+    read_changes(&volume, ring);
+    ask_file(&volume);
     expect("usn_delete", usn_delete(&volume, ID));
     expect("usn_finish", usn_finish(&volume));
+    printf("deleted, LastUsn %" PRIu64 "\n", volume.last);
     return 0;
 }

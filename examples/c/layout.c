@@ -1,8 +1,10 @@
-/* The layouts that C and the library share, checked when this file is compiled. */
+/* The layouts that C, C++ and the library share, and that of the header's own struct, checked when this file is compiled. */
+#include <assert.h>
+
 #include "lanhduxe.h"
 
-#define SIZE(type, n) _Static_assert(sizeof(type) == (n), "size of " #type)
-#define AT(type, field, n) _Static_assert(offsetof(type, field) == (n), "place of " #field " in " #type)
+#define SIZE(type, n) static_assert(sizeof(type) == (n), "size of " #type)
+#define AT(type, field, n) static_assert(offsetof(type, field) == (n), "place of " #field " in " #type)
 
 SIZE(usn_volume, 56);
 AT(usn_volume, usn, 0);
@@ -63,3 +65,11 @@ AT(usn_walk, status, 0);
 AT(usn_walk, position, 8);
 AT(usn_walk, count, 16);
 AT(usn_walk, bad, 24);
+
+SIZE(usn_read_input, 32);
+AT(usn_read_input, start, 0);
+AT(usn_read_input, mask, 8);
+AT(usn_read_input, only_on_close, 12);
+AT(usn_read_input, id, 16);
+AT(usn_read_input, lowest, 24);
+AT(usn_read_input, highest, 26);

@@ -91,57 +91,57 @@ mod c {
         pub fn usn_post(
             volume: *mut Volume,
             ring: *mut u8,
-            ring_len: usize,
+            ring_size: usize,
             change: Change,
             name: *const u8,
-            name_len: usize,
+            name_size: usize,
             usn: *mut u64,
         ) -> u32;
         pub fn usn_read_journal(
             volume: Volume,
             ring: *const u8,
-            ring_len: usize,
+            ring_size: usize,
             input: *const u8,
-            input_len: usize,
+            input_size: usize,
             output: *mut u8,
-            output_len: usize,
+            output_size: usize,
         ) -> Answer;
         pub fn usn_read_file(
             volume: Volume,
             file: FileRecord,
             parent: u64,
             pool: *const u8,
-            pool_len: usize,
+            pool_size: usize,
             links: *const Link,
             link_count: usize,
             input: *const u8,
-            input_len: usize,
+            input_size: usize,
             output: *mut u8,
-            output_len: usize,
+            output_size: usize,
         ) -> Answer;
         pub fn usn_query_file_regions(
             volume: Volume,
             file: FileRecord,
             input: *const u8,
-            input_len: usize,
+            input_size: usize,
             output: *mut u8,
-            output_len: usize,
+            output_size: usize,
         ) -> Answer;
         pub fn usn_get_reparse_point(
             volume: Volume,
             file: FileRecord,
             data: *const u8,
-            data_len: usize,
+            data_size: usize,
             output: *mut u8,
-            output_len: usize,
+            output_size: usize,
         ) -> Answer;
-        pub fn usn_read_record(bytes: *const u8, len: usize, at: u64) -> Record;
-        pub fn usn_walk_reply(reply: *const u8, len: usize) -> Walk;
+        pub fn usn_read_record(bytes: *const u8, size: usize, at: usize) -> Record;
+        pub fn usn_walk_reply(reply: *const u8, size: usize) -> Walk;
         pub fn usn_list_reply(
             reply: *const u8,
-            len: usize,
+            size: usize,
             output: *mut u8,
-            output_len: usize,
+            output_size: usize,
         ) -> Answer;
     }
 }
@@ -478,7 +478,8 @@ impl Volume {
     /// The input has StartUsn `i64`, ReasonMask `u32`, ReturnOnlyOnClose `u32`,
     /// Timeout and BytesToWaitFor `u64` (both ignored), the journal's id `u64`
     /// and, from 48 bytes on, the lowest and highest version `u16`. The reply is
-    /// the position to go on with, `u64`, and the selected records behind it.
+    /// the position to go on with, `u64`, and the selected records behind it, up
+    /// to the first that does not fit.
     ///
     /// Refusals, in order: [`Status::InvalidDeviceRequest`] without a journal on
     /// the volume; [`Status::JournalDeleteInProgress`];
@@ -645,7 +646,7 @@ pub struct Record {
 #[inline]
 pub fn read_record(bytes: &[u8], at: usize) -> Option<Record> {
     // SAFETY: pointer and length come from one live borrow.
-    let record = unsafe { c::usn_read_record(bytes.as_ptr(), bytes.len(), at as u64) };
+    let record = unsafe { c::usn_read_record(bytes.as_ptr(), bytes.len(), at) };
     match Status::of(record.status) {
         Status::Success => {
             let name = record.name as usize;

@@ -1,91 +1,365 @@
-//! The structs of the C header are those of the library: the same fields of the same types in the same order, read from the
-//! sources of both. That their sizes and places are the same on the Rust side is checked when the wrapper is compiled, and on the
-//! C side by `examples/c/layout.c`.
+//! The C header, the wrapper's declarations and the library have the same structs and the same calls: fields, parameters and results,
+//! by name, type and order, read from the sources of the three. That sizes and places are the same is checked when the wrapper and
+//! `examples/c/layout.c` are compiled.
 
+use std::collections::BTreeMap;
 use std::fs;
 
-/// A struct in the library's sources and in the header.
-const STRUCTS: [(&str, &str, &str); 7] = [
-    ("crates/volume/src/lib.rt", "Volume", "usn_volume"),
-    ("crates/journal_post/src/lib.rt", "Change", "usn_change"),
-    ("crates/file_record/src/lib.rt", "FileRecord", "usn_file"),
-    ("crates/file_links/src/lib.rt", "Link", "usn_link"),
-    ("crates/call_cores/src/lib.rt", "Report", "usn_answer"),
-    ("crates/lanhduxe/src/lib.rt", "RecordReport", "usn_record"),
-    ("crates/lanhduxe/src/lib.rt", "WalkReport", "usn_walk"),
-];
+const HEADER: &str = "include/lanhduxe.h";
+const WRAPPER: &str = "rust/src/lib.rs";
+const LIBRARY: &str = "crates/lanhduxe/src/lib.rt";
 
-/// The calls that the library exports.
+/// `LANHDUXE_VERSION`, and the number that `fingerprint` makes of the structs and calls of that version.
+const VERSION: (&str, u64) = ("2", 0xEDF0_E460_A95F_B863);
+
+/// The calls of the interface.
 const CALLS: usize = 11;
 
+/// A struct that is shared: where the library has it, and its name in the library, in the wrapper and in the header.
+struct Shared {
+    path: &'static str,
+    library: &'static str,
+    wrapper: &'static str,
+    header: &'static str,
+}
+
+const fn shared(
+    path: &'static str,
+    library: &'static str,
+    wrapper: &'static str,
+    header: &'static str,
+) -> Shared {
+    Shared {
+        path,
+        library,
+        wrapper,
+        header,
+    }
+}
+
+const STRUCTS: [Shared; 7] = [
+    shared("crates/volume/src/lib.rt", "Volume", "Volume", "usn_volume"),
+    shared(
+        "crates/journal_post/src/lib.rt",
+        "Change",
+        "Change",
+        "usn_change",
+    ),
+    shared(
+        "crates/file_record/src/lib.rt",
+        "FileRecord",
+        "FileRecord",
+        "usn_file",
+    ),
+    shared("crates/file_links/src/lib.rt", "Link", "Link", "usn_link"),
+    shared(
+        "crates/call_cores/src/lib.rt",
+        "Report",
+        "Answer",
+        "usn_answer",
+    ),
+    shared(LIBRARY, "RecordReport", "Record", "usn_record"),
+    shared(LIBRARY, "WalkReport", "Walk", "usn_walk"),
+];
+
+/// The structs that only the header has, for its own functions.
+const HEADERS_OWN: [&str; 1] = ["usn_read_input"];
+
+/// What the library calls otherwise than the header. A slice's length is called `_size` behind its name here.
+const OTHER_NAMES: [(&str, &str); 10] = [
+    ("v", "volume"),
+    ("f", "file"),
+    ("c", "change"),
+    ("s", "bytes"),
+    ("s", "reply"),
+    ("s_size", "size"),
+    ("bytes", "data"),
+    ("bytes_size", "data_size"),
+    ("links_size", "link_count"),
+    ("short", "short_length"), // `short` is a word of C
+];
+
+/// A field or a parameter: its name, and its type in the words of C.
+type Named = (String, String);
+
+/// A call's parameters and its result.
+type Signature = (Vec<Named>, String);
+
+/// A source without its comments, every line without what stands around it.
 fn source(path: &str) -> String {
     let path = format!("{}/../{path}", env!("CARGO_MANIFEST_DIR"));
-    fs::read_to_string(&path).unwrap_or_else(|e| panic!("{path}: {e}"))
+    let text = fs::read_to_string(&path).unwrap_or_else(|e| panic!("{path}: {e}"));
+    let mut parts = text.split("/*");
+    let mut code = parts.next().expect("a first part").to_string();
+    for part in parts {
+        code += part.split_once("*/").expect("the comment's end").1;
+    }
+    let lines = code
+        .lines()
+        .map(|line| line.split("//").next().unwrap_or("").trim());
+    lines
+        .filter(|line| !line.is_empty())
+        .collect::<Vec<_>>()
+        .join("\n")
 }
 
 /// The text between `from` and `to`.
 fn between<'a>(text: &'a str, from: &str, to: &str) -> &'a str {
     let start = text.find(from).unwrap_or_else(|| panic!("no `{from}`")) + from.len();
-    let end = text[start..].find(to).unwrap_or_else(|| panic!("no `{to}` behind `{from}`"));
+    let end = text[start..]
+        .find(to)
+        .unwrap_or_else(|| panic!("no `{to}` behind `{from}`"));
     &text[start..start + end]
 }
 
-/// The fields of a struct that is shared with C, as name and type.
-fn shared(text: &str, name: &str) -> Vec<(String, String)> {
-    let body = between(text, &format!("#[repr(C)]\npub struct {name} {{"), "}");
-    body.lines()
-        .filter_map(|line| line.trim().strip_prefix("pub "))
-        .map(|field| {
-            let (name, kind) = field.trim_end_matches(',').split_once(": ").expect("a field");
-            (name.to_string(), kind.to_string())
-        })
+/// The C type for a type of Rust or Rattle.
+fn c_type(kind: &str) -> String {
+    if let Some(array) = kind.strip_prefix('[') {
+        let (item, count) = array
+            .trim_end_matches(']')
+            .split_once("; ")
+            .expect("an array");
+        return format!("{}[{count}]", c_type(item));
+    }
+    for (before, const_word) in [
+        ("*mut ", ""),
+        ("&mut ", ""),
+        ("*const ", "const "),
+        ("&", "const "),
+    ] {
+        if let Some(target) = kind.strip_prefix(before) {
+            return format!("{const_word}{} *", c_type(target));
+        }
+    }
+    match kind {
+        "u8" | "u16" | "u32" | "u64" => format!("uint{}_t", &kind[1..]),
+        "usize" => "size_t".to_string(),
+        _ => STRUCTS
+            .iter()
+            .find(|shared| [shared.library, shared.wrapper].contains(&kind))
+            .unwrap_or_else(|| panic!("no C type for `{kind}`"))
+            .header
+            .to_string(),
+    }
+}
+
+/// A field or a parameter of Rust or Rattle. A slice is a pointer and a length.
+fn named(text: &str) -> Vec<Named> {
+    let (name, kind) = text
+        .split_once(": ")
+        .unwrap_or_else(|| panic!("no type in `{text}`"));
+    let name = name.trim_start_matches("pub ").to_string();
+    match kind.trim_end_matches(']').split_once('[') {
+        Some((pointer, item)) if !pointer.is_empty() => {
+            let length = (format!("{name}_size"), "size_t".to_string());
+            vec![(name, c_type(&format!("{pointer}{item}"))), length]
+        }
+        _ => vec![(name, c_type(kind))],
+    }
+}
+
+/// A field or a parameter of C.
+fn c_named(text: &str) -> Named {
+    let text = text.split_whitespace().collect::<Vec<_>>().join(" ");
+    let (text, array) = match text.find('[') {
+        Some(at) => text.split_at(at),
+        None => (&text[..], ""),
+    };
+    let at = text
+        .rfind([' ', '*'])
+        .unwrap_or_else(|| panic!("no type in `{text}`"))
+        + 1;
+    (
+        text[at..].to_string(),
+        format!("{}{array}", text[..at].trim()),
+    )
+}
+
+/// The parts of a list between commas.
+fn parts(list: &str) -> impl Iterator<Item = &str> {
+    list.split(',')
+        .map(str::trim)
+        .filter(|part| !part.is_empty())
+}
+
+/// The fields of a struct of Rust or Rattle that is shared with C.
+fn fields(code: &str, name: &str) -> Vec<Named> {
+    let body = between(code, &format!("#[repr(C)]\npub struct {name} {{"), "}");
+    parts(body).flat_map(named).collect()
+}
+
+/// The fields of a struct of C.
+fn c_fields(code: &str, name: &str) -> Vec<Named> {
+    let body = between(code, &format!("typedef struct {name} {{"), "}");
+    body.split(';')
+        .filter(|field| !field.trim().is_empty())
+        .map(c_named)
         .collect()
 }
 
-/// The fields of a struct in the header, in the library's words.
-fn declared(text: &str, name: &str) -> Vec<(String, String)> {
-    let body = between(text, &format!("typedef struct {name} {{"), "}");
-    body.lines()
-        .filter_map(|line| line.split_once(';'))
-        .map(|(field, _)| {
-            let (kind, name) = field.trim().split_once(' ').expect("a field");
-            let kind = kind.trim_start_matches("uint").trim_end_matches("_t");
-            match name.strip_suffix("[16]") {
-                Some(name) => (name.to_string(), format!("[u{kind}; 16]")),
-                // `short` is a word of C
-                None => (name.replace("short_length", "short"), format!("u{kind}")),
+/// The calls of Rust or Rattle that begin with a marker.
+fn calls(code: &str, marker: &str) -> BTreeMap<String, Signature> {
+    let mut found = BTreeMap::new();
+    for rest in code.split(marker).skip(1) {
+        let (name, rest) = rest.split_once('(').expect("parameters");
+        let (list, rest) = rest.split_once(')').expect("the parameters' end");
+        let result = rest.trim_start().strip_prefix("-> ").expect("a result");
+        let result = result.split([';', '\n', ' ']).next().expect("a type");
+        let signature = (parts(list).flat_map(named).collect(), c_type(result));
+        assert!(
+            found.insert(name.to_string(), signature).is_none(),
+            "{name} twice"
+        );
+    }
+    found
+}
+
+/// What C declares outside of all braces, each without its end.
+fn declarations(code: &str) -> Vec<String> {
+    let code = code
+        .replace("extern \"C\" {", "")
+        .replace("#ifdef __cplusplus\n}", "");
+    let (mut found, mut one, mut depth) = (Vec::new(), String::new(), 0);
+    for line in code.lines().filter(|line| !line.starts_with('#')) {
+        for letter in line.chars().chain(['\n']) {
+            match letter {
+                '{' => depth += 1,
+                // behind a function's body, but not behind a struct's
+                '}' if depth == 1 && one.contains('(') => (one, depth) = (String::new(), 0),
+                '}' => depth -= 1,
+                ';' if depth == 0 => found.push(std::mem::take(&mut one).trim().to_string()),
+                _ if depth == 0 => one.push(letter),
+                _ => {}
             }
-        })
-        .collect()
+        }
+    }
+    assert_eq!(one.trim(), "", "a declaration has no end");
+    found
+}
+
+/// The calls that C declares.
+fn c_calls(code: &str) -> BTreeMap<String, Signature> {
+    let mut found = BTreeMap::new();
+    for declaration in declarations(code) {
+        if let Some((head, rest)) = declaration.split_once('(') {
+            let (name, result) = c_named(head);
+            let list = rest.strip_suffix(')').expect("the parameters' end");
+            let signature = (parts(list).map(c_named).collect(), result);
+            assert!(
+                found.insert(name.clone(), signature).is_none(),
+                "{name} twice"
+            );
+        }
+    }
+    found
+}
+
+/// The library's fields or parameters are those of the header, but for some names.
+fn assert_same(library: &[Named], header: &[Named], what: &str) {
+    let same = |(ours, theirs): (&Named, &Named)| {
+        let names = (&ours.0[..], &theirs.0[..]);
+        ours.1 == theirs.1 && (names.0 == names.1 || OTHER_NAMES.contains(&names))
+    };
+    assert!(
+        library.len() == header.len() && library.iter().zip(header).all(same),
+        "{what}:\nlibrary {library:?}\nheader  {header:?}"
+    );
+}
+
+/// A number for the header's structs and calls, which any change of a field, of a type or of an order changes.
+fn fingerprint(header: &str) -> u64 {
+    let mut text = String::new();
+    for name in STRUCTS
+        .iter()
+        .map(|shared| shared.header)
+        .chain(HEADERS_OWN)
+    {
+        text += &format!("{name} {:?}\n", c_fields(header, name));
+    }
+    for (name, (parameters, result)) in c_calls(header) {
+        let kinds: Vec<&String> = parameters.iter().map(|(_, kind)| kind).collect();
+        text += &format!("{name} {kinds:?} {result}\n");
+    }
+    text.bytes().fold(0xCBF2_9CE4_8422_2325, |hash, byte| {
+        (hash ^ byte as u64).wrapping_mul(0x100_0000_01B3)
+    })
 }
 
 #[test]
-fn the_header_has_the_librarys_structs() {
-    let header = source("include/lanhduxe.h");
-    for (path, ours, theirs) in STRUCTS {
-        let fields = shared(&source(path), ours);
-        assert!(fields.len() > 1, "{ours} has no fields");
-        assert_eq!(fields, declared(&header, theirs), "{ours} and {theirs}");
+fn the_three_have_the_same_structs() {
+    let (header, wrapper) = (source(HEADER), source(WRAPPER));
+    for shared in &STRUCTS {
+        let declared = c_fields(&header, shared.header);
+        assert!(declared.len() > 1, "{} has no fields", shared.header);
+        let library = fields(&source(shared.path), shared.library);
+        assert_same(&library, &declared, shared.header);
+        assert_eq!(
+            fields(&wrapper, shared.wrapper),
+            library,
+            "{}",
+            shared.wrapper
+        );
+    }
+    let mut known: Vec<&str> = STRUCTS
+        .iter()
+        .map(|shared| shared.header)
+        .chain(HEADERS_OWN)
+        .collect();
+    let mut declared: Vec<&str> = header
+        .split("typedef struct ")
+        .skip(1)
+        .filter_map(|rest| rest.split(' ').next())
+        .collect();
+    known.sort();
+    declared.sort();
+    assert_eq!(declared, known);
+}
+
+#[test]
+fn the_three_have_the_same_calls() {
+    let header = c_calls(&source(HEADER));
+    assert_eq!(header.len(), CALLS);
+
+    let wrapper = calls(between(&source(WRAPPER), "extern \"C\" {", "}"), "pub fn ");
+    assert!(wrapper.keys().eq(header.keys()), "{:?}", wrapper.keys());
+    let stores = calls(
+        between(&source("rust/tests/stores.rs"), "extern \"C\" {", "}"),
+        "fn ",
+    );
+    for (name, signature) in wrapper.iter().chain(&stores) {
+        assert_eq!(*signature, header[name], "{name}");
+    }
+
+    let library = calls(&source(LIBRARY), "pub extern \"C\" fn ");
+    assert!(library.keys().eq(header.keys()), "{:?}", library.keys());
+    for (name, (parameters, result)) in &library {
+        assert_same(parameters, &header[name].0, name);
+        assert_eq!(*result, header[name].1, "{name}");
     }
 }
 
 #[test]
-fn the_header_has_the_librarys_calls() {
-    let (header, library) = (source("include/lanhduxe.h"), source("crates/lanhduxe/src/lib.rt"));
-    let calls: Vec<&str> = library
-        .split("pub extern \"C\" fn ")
-        .skip(1)
-        .map(|rest| rest.split('(').next().expect("a name"))
-        .collect();
-    assert_eq!(calls.len(), CALLS);
-    for call in calls {
-        assert_eq!(header.matches(&format!(" {call}(")).count(), 1, "{call}");
+fn the_version_changes_with_structs_and_calls() {
+    let header = source(HEADER);
+    let version = between(&header, "#define LANHDUXE_VERSION ", "\n");
+    let now = (version, fingerprint(&header));
+    assert!(
+        now == VERSION,
+        "raise LANHDUXE_VERSION if a struct or a call has changed; then VERSION is {now:#X?}"
+    );
+}
+
+#[test]
+fn the_example_has_every_call() {
+    let example = source("examples/c/journal.c");
+    for call in c_calls(&source(HEADER)).keys() {
+        assert!(example.contains(&format!("{call}(")), "{call}");
     }
 }
 
 #[test]
 fn the_header_has_the_statuses() {
-    let header = source("include/lanhduxe.h");
+    let header = source(HEADER);
     for status in lanhduxe::Status::ALL {
         let name = status.to_string().replace("STATUS_", "USN_");
         let line = format!("#define {name:<30} 0x{:08X}u", status.number());

@@ -402,8 +402,11 @@ impl Run {
         let history = &list.history;
         let it = &mut list.readers[reader];
         let version = input.version();
-        let well_formed =
-            history.live && input.size >= 40 && room >= 8 && version.is_some() && input.id == history.id;
+        let well_formed = history.live
+            && input.size >= 40
+            && room >= 8
+            && version.is_some()
+            && input.id == history.id;
         let gone = history.dropped_above(it.position);
         let next = history
             .selected_above(it.position, it.mask, it.only_on_close)

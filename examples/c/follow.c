@@ -1,0 +1,51 @@
+#include "follow.h"
+
+static usn_answer read_journal(uint64_t id, uint64_t start, uint32_t mask, uint8_t *reply, size_t reply_size)
+{
+    uint8_t input[USN_READ_INPUT_SIZE];
+    usn_read_input wanted = { .start = start, .mask = mask, .id = id, .lowest = 2, .highest = 3 };
+    usn_put_read_input(input, wanted);
+    return ask(input, sizeof input, reply, reply_size);
+}
+
+/* Begins, or begins anew. First the place to read from, then the files: what changes meanwhile comes as records. */
+uint32_t begin(follower *self)
+{
+    uint8_t reply[8];
+    follower fresh = { .id = journal_id() };
+    usn_answer answer = read_journal(fresh.id, 0, 0, reply, sizeof reply); /* mask 0: the journal's end, and no records */
+    if (answer.status != USN_SUCCESS)
+        return answer.status;
+    fresh.position = usn_reply_position(reply);
+    look_at_files();
+    *self = fresh;
+    keep(self);
+    return USN_SUCCESS;
+}
+
+/* Acts on every record up to the journal's end. */
+uint32_t follow(follower *self)
+{
+    static uint8_t reply[8192];
+    for (;;) {
+        usn_answer answer = read_journal(self->id, self->position, 0xFFFFFFFF, reply, sizeof reply);
+        if (answer.status == USN_JOURNAL_ENTRY_DELETED) /* records are lost */
+            return begin(self);
+        if (answer.status == USN_INVALID_PARAMETER)     /* the journal is another one, under another id */
+            return begin(self);
+        if (answer.status != USN_SUCCESS)               /* nothing was read, and the next turn asks for the same */
+            return answer.status;
+        usn_walk walk = usn_walk_reply(reply, answer.count);
+        if (walk.status != USN_SUCCESS)                 /* damaged on the way: ask again */
+            return walk.status;
+        for (size_t at = 8; at < answer.count;) {
+            usn_record record = usn_read_record(reply, answer.count, at);
+            act_on(&record, reply + record.name);
+            at = record.next;
+        }
+        if (walk.position == self->position)
+            return USN_SUCCESS;
+        self->position = walk.position;                 /* only now: a restart before this reads these records again */
+        keep(self);
+    }
+}

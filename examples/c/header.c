@@ -1,0 +1,89 @@
+/*
+ * What the header has itself: its functions, byte for byte, and its states and limits, tried on the library with the last number that
+ * is taken and the first that is not. Built as C and as C++.
+ */
+#include <stdio.h>
+#include <string.h>
+
+#include "lanhduxe.h"
+
+static int failed = 0;
+
+#define TRY(wanted) \
+    do { \
+        if (!(wanted)) { \
+            fprintf(stderr, "header.c:%d: not so: %s\n", __LINE__, #wanted); \
+            failed = 1; \
+        } \
+    } while (0)
+
+static void try_functions(void)
+{
+    static const uint8_t expected[USN_READ_INPUT_SIZE + 1] = {
+        0x01, 0x02, 0x03, 0x04, 0x05, 0x06, 0x07, 0x88, 0x09, 0x0A, 0x0B, 0x8C, 0x0D, 0x0E, 0x0F, 0x90,
+        0, 0, 0, 0, 0, 0, 0, 0, 0, 0, 0, 0, 0, 0, 0, 0,
+        0x11, 0x12, 0x13, 0x14, 0x15, 0x16, 0x17, 0x98, 0x19, 0x9A, 0x1B, 0x9C, 0, 0, 0, 0, 0xEE,
+    };
+    uint8_t bytes[USN_READ_INPUT_SIZE + 1];
+    usn_read_input input = { 0x8807060504030201, 0x8C0B0A09, 0x900F0E0D, 0x9817161514131211, 0x9A19, 0x9C1B };
+    memset(bytes, 0xEE, sizeof bytes);
+    usn_put_read_input(bytes, input);
+    TRY(memcmp(bytes, expected, sizeof bytes) == 0);
+    TRY(usn_reply_position(bytes) == input.start);
+    TRY(usn_get_number(bytes + 8, 4) == input.mask);
+    TRY(usn_get_number(bytes + 40, 2) == input.lowest);
+}
+
+static usn_volume volume_of(uint64_t capacity, uint64_t last)
+{
+    usn_volume volume = { 0, 0, 0, 0, 1, USN_STATE_IDLE, 0, 0, last, capacity };
+    return volume;
+}
+
+static uint32_t created(uint64_t capacity, uint64_t last)
+{
+    usn_volume volume = volume_of(capacity, last);
+    return usn_create(&volume, 7);
+}
+
+static void try_states_and_limits(void)
+{
+    static uint8_t ring[USN_CAPACITY_MIN], name[USN_NAME_MAX + 2], output[USN_READ_ROOM];
+    usn_volume volume = volume_of(sizeof ring, 0);
+    usn_change change = { 5, 2, 0, 1, 0, 0, 0 };
+    usn_read_input wanted = { 0, 1, 0, 7, 3, 3 };
+    uint8_t input[USN_READ_INPUT_SIZE];
+    uint64_t usn = 0;
+
+    TRY(created(USN_CAPACITY_MIN, 0) == USN_SUCCESS);
+    TRY(created(USN_CAPACITY_MIN - 8, 0) == USN_FILE_CORRUPT_ERROR);
+    TRY(created(USN_CAPACITY_MAX, 0) == USN_SUCCESS);
+    TRY(created(USN_CAPACITY_MAX + 8, 0) == USN_FILE_CORRUPT_ERROR);
+    TRY(created(USN_CAPACITY_MIN, USN_POSITION_LIMIT - 8) == USN_SUCCESS);
+    TRY(created(USN_CAPACITY_MIN, USN_POSITION_LIMIT) == USN_FILE_CORRUPT_ERROR);
+
+    TRY(usn_create(&volume, 7) == USN_SUCCESS && volume.state == USN_STATE_ACTIVE);
+    TRY(usn_post(&volume, ring, sizeof ring, change, name, USN_NAME_MAX + 2, &usn) == USN_INVALID_PARAMETER);
+    TRY(usn_post(&volume, ring, sizeof ring, change, name, USN_NAME_MAX, &usn) == USN_SUCCESS);
+    usn_put_read_input(input, wanted);
+    TRY(usn_read_journal(volume, ring, sizeof ring, input, sizeof input, output, USN_READ_ROOM - 1).status == USN_BUFFER_TOO_SMALL);
+    TRY(usn_read_journal(volume, ring, sizeof ring, input, sizeof input, output, USN_READ_ROOM).status == USN_SUCCESS);
+    TRY(usn_delete(&volume, 7) == USN_SUCCESS && volume.state == USN_STATE_DELETING);
+    TRY(usn_finish(&volume) == USN_SUCCESS && volume.state == USN_STATE_IDLE);
+}
+
+static void try_listing(void)
+{
+    static uint8_t reply[USN_LIST_MAX + 1], text[USN_LIST_ROOM(sizeof reply)];
+    TRY(usn_list_reply(reply, USN_LIST_MAX, text, USN_LIST_ROOM(USN_LIST_MAX) - 1).status == USN_BUFFER_TOO_SMALL);
+    TRY(usn_list_reply(reply, USN_LIST_MAX, text, USN_LIST_ROOM(USN_LIST_MAX)).count == 9 && memcmp(text, "bad at 8\n", 9) == 0);
+    TRY(usn_list_reply(reply, sizeof reply, text, sizeof text).count == 13 && memcmp(text, "bad at 65536\n", 13) == 0);
+}
+
+int main(void)
+{
+    try_functions();
+    try_states_and_limits();
+    try_listing();
+    return failed;
+}
