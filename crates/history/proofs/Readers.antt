@@ -31,33 +31,31 @@ use Rattle.journal_read.specs.Input.{filterOf, versionOf, argumentCheck}
 use Rattle.journal_page.specs.Select.{selects}
 use Rattle.journal_page.specs.Page.{inVersion, Page, pageOf, empty, pageBytes, pageReply}
 use Rattle.journal_read.specs.Read.{isDeleted, origin, deletedCheck, answerFrom, readAnswer, readCheck, readReply}
-use Rattle.history.specs.Calls.{Read, read, Journal, replyTo, outcome, next, Typed, AllTyped}
+use Rattle.history.specs.Calls.{Read, read, Journal, replyTo, statusOf, next, Typed, AllTyped}
 use Rattle.history.specs.Log.{History, posted, note, notes}
-use Rattle.history.specs.Reading.{Sheet, Reader, advanced, told, Turn, mine, other, callOf, hears, follow, Carries, Own, Chosen, Hold}
+use Rattle.history.specs.Reading.{Received, Reader, advanced, told, Turn, mine, other, callOf, hears, follow, Carries, Own, Chosen, Hold}
 use Rattle.history.specs.Demand.{filter, between, CreatesNone, NoCreation, DroppedAbove, isNone, wellFormed}
 use Rattle.history.proofs.Links.{Chain, chain-le, chain-append}
-use Rattle.history.proofs.Sim.{Live, usable, Sim, Grow}
+use Rattle.history.proofs.Effects.{clash, usable}
+use Rattle.history.proofs.Sim.{Live, Sim, Grow}
 use Rattle.history.proofs.Chains.{filter-append, between-append, between-high, between-all, between-top, after-drop, after-boundary, after-append, Boundary, boundary, mem-range, some-above, Split, split, page-alike}
-use Rattle.history.proofs.Simulate.{kept-live, sound-live, sim-step}
-
-pub clash : {A : Type 0} → _≡_ {A = ℕ} 0 1 → A
-clash z = absurd (omega arith)
+use Rattle.history.proofs.Simulate.{kept-live, sound-live, active-only, sim-step}
 
 pub whole : (j : Journal) (h : History) → Sim j h → Chain (h .base) (posted h) (h .end)
-whole j h m = chain-append (h .base) (h .dropped) (h .first) (h .left) (h .end) (m .gone) (m .here)
+whole j h m = chain-append (h .base) (h .dropped) (h .first) (h .left) (h .end) (m .shape .gone) (m .shape .here)
 
--- ---- sheets
+-- ---- replies
 
--- one more sheet holds the records that are its bytes
-pub hold-more : (sheets : List Sheet) (rs more : List Record) (s : Sheet) → Hold sheets rs → s .bytes ≡ joined (map (inVersion (s .version)) more)
-    → Hold (sheets ++ (s ∷ [])) (rs ++ more)
+-- one more reply holds the records that are its bytes behind the position
+pub hold-more : (ss : List Received) (rs more : List Record) (s : Received) → Hold ss rs → drop 8 (s .bytes) ≡ joined (map (inVersion (s .version)) more)
+    → Hold (ss ++ (s ∷ [])) (rs ++ more)
 hold-more [] rs more s k b = (more, [], ap (λ (x : List Record). x ++ more) k ∙ sym (append-nil more), b, refl)
-hold-more (x ∷ sheets) rs more s k b = (
+hold-more (x ∷ ss) rs more s k b = (
   k .0,
   k .1 ++ more,
   ap (λ (y : List Record). y ++ more) (k .2) ∙ append-assoc (k .0) (k .1) more,
   k .3,
-  hold-more sheets (k .1) more s (k .4) b,
+  hold-more ss (k .1) more s (k .4) b,
 )
 
 -- ---- a reader that stands rightly in the history
@@ -108,9 +106,6 @@ unfolding sound goodMarks
 sound-buffer v ring h =
     and-left (eqb (length ring) (v .capacity)) _
     (and-right (goodCapacity (v .capacity)) _ (and-left (goodMarks v (length ring)) (inChain (v .first) (records 0 (keptBytes v ring))) h))
-
-active-only : (v : Volume) → isActive v ≡ true → isDeleting v ≡ false
-active-only v e = let s : v .state ≡ 1 = eqb-true (v .state) 1 e in ne-eqb (v .state) 2 (λ q. omega arith)
 
 check-none : (v : Volume) (input : List ℕ) (room : ℕ) → supported (v .journal) ≡ true → isActive v ≡ true → argumentCheck (v .id) input room ≡ none
     → readCheck v input room ≡ none
@@ -178,7 +173,7 @@ module _ (j : Journal) (h : History) (m : Sim j h) (d : Reader) (t : Stand h d) 
   deleted-is : isDeleted p (h .first) ≡ ltb p (h .first)
   unfolding isDeleted
   deleted-is =
-      ap₂ (λ (x y : Bool). not x && (y || ltb p (h .first))) not-zero (lt-leb (2 ^ 63) p (omega (arith, p-end, m .low)))
+      ap₂ (λ (x y : Bool). not x && (y || ltb p (h .first))) not-zero (lt-leb (2 ^ 63) p (omega (arith, p-end, m .shape .low)))
 
   origin-is : origin p (h .first) ≡ p
   unfolding origin
@@ -204,7 +199,7 @@ module _ (j : Journal) (h : History) (m : Sim j h) (d : Reader) (t : Stand h d) 
       answered
       ∙ ap (λ (x : Bool). by-marks x (h .first) p) (le-ltb p (h .first) k)
       ∙ ap (answerFrom (versionOf (a .input)) (filterOf (a .input)) (a .room - 8) p)
-      (sym (after-drop (h .base) (h .dropped) (h .first) p (h .left) (m .gone) k) ∙ t .boundary)
+      (sym (after-drop (h .base) (h .dropped) (h .first) p (h .left) (m .shape .gone) k) ∙ t .boundary)
       ∙ ap (pageReply (versionOf (a .input))) (page-alike (versionOf (a .input)) (filterOf (a .input)) (d .filter) (c .1) (a .room - 8) p (t .rest))
 
 -- ---- the clause on deleted entries
@@ -219,7 +214,7 @@ page-told v page h = go (page .cut && empty (page .given)) (ap number h)
     go false k = omega arith
 
 pub deleted-iff : (j : Journal) (h : History) (d : Reader) → Sim j h → Stand h d → (a : Read) → Carries d a → wellFormed h a ≡ true
-    → (outcome j (read a) .status ≡ JournalEntryDeleted) ↔ DroppedAbove h (d .position)
+    → (statusOf j (read a) ≡ JournalEntryDeleted) ↔ DroppedAbove h (d .position)
 unfolding wellFormed
 deleted-iff j h d m t a c w = (there, back)
   where
@@ -232,18 +227,18 @@ deleted-iff j h d m t a c w = (there, back)
     status : Reply → Status
     status r = answer r .status
 
-    there : outcome j (read a) .status ≡ JournalEntryDeleted → DroppedAbove h (d .position)
+    there : statusOf j (read a) ≡ JournalEntryDeleted → DroppedAbove h (d .position)
     there k = by (ltb (d .position) (h .first)) refl
       where
         by : (x : Bool) → ltb (d .position) (h .first) ≡ x → DroppedAbove h (d .position)
         by true q =
-            let s = some-above (h .base) (h .dropped) (h .first) (d .position) (m .gone) (base-low j h m d t a c v ok) (ltb-true _ _ q) in
+            let s = some-above (h .base) (h .dropped) (h .first) (d .position) (m .shape .gone) (base-low j h m d t a c v ok) (ltb-true _ _ q) in
             (s .0, s .1, omega (arith, s .2))
         by false q = absurd (page-told _ _ (ap status (sym (told-reply j h m d t a c v ok (ltb-false _ _ q))) ∙ k))
 
-    back : DroppedAbove h (d .position) → outcome j (read a) .status ≡ JournalEntryDeleted
+    back : DroppedAbove h (d .position) → statusOf j (read a) ≡ JournalEntryDeleted
     back r =
-        ap status (told-deleted j h m d t a c v ok (omega (arith, mem-range (h .base) (h .dropped) (h .first) (r .0) (m .gone) (r .1) .1, r .2)))
+        ap status (told-deleted j h m d t a c v ok (omega (arith, mem-range (h .base) (h .dropped) (h .first) (r .0) (m .shape .gone) (r .1) .1, r .2)))
 
 -- ---- a reply
 
@@ -307,10 +302,10 @@ module _ (j : Journal) (h : History) (m : Sim j h) (d : Reader) (t : Stand h d) 
     at =
         sym
         (ap positionOf (r .laid)
-        ∙ position-back (c .position) (pageBytes w c) (omega (arith, chain-le (c .position) (sp .remain) (h .end) (sp .beyond), m .low)))
+        ∙ position-back (c .position) (pageBytes w c) (omega (arith, chain-le (c .position) (sp .remain) (h .end) (sp .beyond), m .shape .low)))
 
-    sheet : drop 8 bytes ≡ joined (map (inVersion w) (sel (sp .taken)))
-    sheet =
+    behind : drop 8 bytes ≡ joined (map (inVersion w) (sel (sp .taken)))
+    behind =
         ap (drop 8) (r .laid)
         ∙ drop-at (le 8 (c .position)) (pageBytes w c) 8 (length-le 8 (c .position))
         ∙ ap (λ (rs : List Record). joined (map (inVersion w) rs)) (sp .given)
@@ -351,7 +346,7 @@ module _ (j : Journal) (h : History) (m : Sim j h) (d : Reader) (t : Stand h d) 
     step-handed : Hold (advanced a bytes d .handed) (sel (β q (posted h)))
     step-handed =
         subst (Hold (advanced a bytes d .handed)) grown
-        (hold-more (d .handed) (sel (β (d .position) (posted h))) (sel (sp .taken)) (record { version = w; bytes = drop 8 bytes }) (t .handed) sheet)
+        (hold-more (d .handed) (sel (β (d .position) (posted h))) (sel (sp .taken)) (record { version = w; bytes = bytes }) (t .handed) behind)
 
     step-boundary : recordsAfter (h .base) q (posted h) ≡ some (sp .remain)
     step-boundary =

@@ -4,7 +4,7 @@ use mathlib.Core.Path.{_≡_, refl, sym, ap, ap₂, _∙_, subst, subst₂}
 use mathlib.Core.Logic.{_⊎_, inl, inr}
 use mathlib.Core.Bool.{Bool, true, false, cond, _&&_}
 use mathlib.Core.Option.{none, some}
-use mathlib.Core.List.{List, [], _∷_, _++_, map, append-assoc, append-nil, nil≢cons, append-cancel-left}
+use mathlib.Core.List.{List, [], _∷_, _++_, map, append-assoc, append-nil, append-cancel-left}
 use Prim.Native.Nat.{ℕ, _+_, _-_, _≤_}
 use native.Mathlib.Omega.{arith}
 use lib.Dec.{leb, ltb}
@@ -23,15 +23,16 @@ use Rattle.journal_page.specs.declared.Filter.{Filter}
 use Rattle.journal_read.specs.Input.{versionOf, argumentCheck}
 use Rattle.journal_page.specs.Select.{selects}
 use Rattle.journal_page.specs.Page.{Page, pageOf, empty, pageBytes, pageReply}
-use Rattle.history.specs.Calls.{Read, Call, create, post, read, delete, finish, Journal, replyTo, outcome, next, runs, AllTyped}
-use Rattle.history.specs.Log.{History, posted, opened, note, notes, opens}
+use Rattle.history.specs.Calls.{Read, Call, Journal, replyTo, next, runs, AllTyped}
+use Rattle.history.specs.Log.{History, posted, note, notes}
 use Rattle.history.specs.Reading.{Reader, fresh, advanced, told, Turn, mine, other, callOf, follow, Carries, Chosen}
 use Rattle.history.specs.Demand.{filter, between, above, Rising, Startable, DroppedAbove, NoCreation, isNone, wellFormed, one, counts, ample, ReaderPromise, Demand3}
 use Rattle.history.proofs.Links.{Chain, chain-le, link-rises}
+use Rattle.history.proofs.Effects.{clash}
 use Rattle.history.proofs.Sim.{Sim, Grow}
 use Rattle.history.proofs.Chains.{filter-chain, filter-none, above-low, above-all, above-append, after-here, after-mem, some-above, first-fits}
-use Rattle.history.proofs.Simulate.{sim-step, create-sim, sim-run, grow-run}
-use Rattle.history.proofs.Readers.{clash, whole, Stand, stand-boundary, stand-grow, none-is, told-reply, deleted-iff, Advance, own-reply, refusal, stand-step, stand-run}
+use Rattle.history.proofs.Simulate.{sim-step, opening-sim, nil-parts, sim-run, grow-run}
+use Rattle.history.proofs.Readers.{whole, Stand, stand-boundary, stand-grow, none-is, told-reply, deleted-iff, Advance, own-reply, refusal, stand-step, stand-run}
 
 -- ---- progress
 
@@ -93,10 +94,6 @@ one-le false = omega arith
 
 append-same : (x y : List Record) → x ++ y ≡ x → y ≡ []
 append-same x y h = append-cancel-left x y [] (h ∙ sym (append-nil x))
-
-append-nil-left : (x y : List Record) → x ++ y ≡ [] → x ≡ []
-append-nil-left [] y q = refl
-append-nil-left (r ∷ x) y q = absurd (nil≢cons (sym q))
 
 refuse-give : (x y : Status) (bytes : List ℕ) → refuse x ≡ give y bytes → ⊥
 refuse-give x y bytes e = clash cc
@@ -160,19 +157,20 @@ progress : (us : List Turn) (j : Journal) (h : History) (d : Reader) → Sim j h
 progress [] j h d m t low y n c quiet (inl s) = s
 progress [] j h d m t low y n c quiet (inr s) = absurd (omega arith)
 progress (mine a ∷ us) j h d m t low y n c quiet soon =
-    progress us j h (told a (replyTo j a) d) m (stand-step j h d m t (mine a) tt tt (c .0)) (low-mine j h d m t low a (c .0))
+    progress us j h (told a (replyTo j a) d) m (stand-step j h d m t (mine a) (y .0) (n .0) (c .0)) (low-mine j h d m t low a (c .0))
     (y .1) (n .1) (c .1) quiet
     (soon-mine j h d m t low a (c .0) (ample h us) soon)
 progress (other k ∷ us) j h d m t low y n c quiet soon =
     let s = sim-step j h m k (y .0) (n .0) in
     let rest = grow-run (map callOf us) (next j k) (note h k) (s .0) (y .1) (n .1) in
     let calm : s .1 .more ≡ [] =
-    append-nil-left (s .1 .more) (rest .more)
+    nil-parts (s .1 .more) (rest .more)
     (append-same (posted h) (s .1 .more ++ rest .more)
     (sym (append-assoc (posted h) (s .1 .more) (rest .more))
     ∙ ap (λ (x : List Record). x ++ rest .more) (sym (s .1 .parts))
     ∙ sym (rest .parts)
-    ∙ quiet)) in
+    ∙ quiet))
+    .0 in
     progress us (next j k) (note h k) d (s .0) (stand-grow j h (note h k) d m (s .1) t) (omega (arith, s .1 .calm calm, low)) (y .1) (n .1) (c .1)
     (quiet ∙ sym (same-posted j h d m t low (note h k) (s .1) calm))
     (soon-other j h d m t low (note h k) (s .1) calm (ample (note h k) us) soon)
@@ -213,7 +211,7 @@ not-dropped j h d m t n = go (ltb (d .position) (h .first)) refl
     go true q =
         let e = stand-boundary j h d m t in
         absurd
-        (n (some-above (h .base) (h .dropped) (h .first) (d .position) (m .gone) (chain-le (h .base) (e .before) (d .position) (e .upto)) (ltb-true (d .position) (h .first) q)))
+        (n (some-above (h .base) (h .dropped) (h .first) (d .position) (m .shape .gone) (chain-le (h .base) (e .before) (d .position) (e .upto)) (ltb-true (d .position) (h .first) q)))
 
 rising : (p : ℕ) (l : List Record) (e : ℕ) → Chain p l e → Rising p l
 rising p [] e h = tt
@@ -248,17 +246,6 @@ notes-append : (x y : List Call) (h : History) → notes h (x ++ y) ≡ notes (n
 notes-append [] y h = refl
 notes-append (c ∷ x) y h = notes-append x y (note h c)
 
--- what a call opens goes together with its history
-opens-sim : (j : Journal) (c : Call) (h : History) → outcome j c .status ≡ Success → opens (j .volume) (length (j .ring)) c ≡ some h
-    → Sim (next j c) h
-opens-sim j (create id) h k o =
-    let z : opened (j .volume) (length (j .ring)) id ≡ h = cc in
-    subst (λ (x : History). Sim (next j (create id)) x) z (create-sim j id k)
-opens-sim j (post c name) h k o = clash cc
-opens-sim j (read a) h k o = clash cc
-opens-sim j (delete id) h k o = clash cc
-opens-sim j finish h k o = clash cc
-
 -- the promise to every reader, over every list of calls from a creation on
 pub demand3 : Demand3
 demand3 j c h k o before ts start f w y n at pos own =
@@ -266,7 +253,7 @@ demand3 j c h k o before ts start f w y n at pos own =
     let us : List Call = map callOf ts in
     let ys = typed-parts before us y in
     let ns = none-parts before us j₁ n in
-    let m = sim-run before j₁ h (opens-sim j c h k o) (ys .0) (ns .0) in
+    let m = sim-run before j₁ h (opening-sim j c h w k o) (ys .0) (ns .0) in
     let t = stand-fresh (runs j₁ before) (notes h before) m start f pos at in
     subst₂ (λ (x : Journal) (z : History). ReaderPromise x z (follow (runs j₁ before) (fresh start f) ts)) (sym (runs-append before us j₁)) (sym (notes-append before us h))
     (promise (runs (runs j₁ before) us) (notes (notes h before) us) (follow (runs j₁ before) (fresh start f) ts)
