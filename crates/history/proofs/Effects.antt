@@ -22,6 +22,9 @@ use Rattle.history.specs.Calls.{Posting, Call, create, post, read, delet
 pub clash : {A : Type 0} → _≡_ {A = ℕ} 0 1 → A
 clash z = absurd (omega arith)
 
+pub and-true : (a b : Bool) → a ≡ true → b ≡ true → a && b ≡ true
+and-true a b p q = rw (p, q)
+
 -- ---- the relation
 
 -- can anything be read or posted?

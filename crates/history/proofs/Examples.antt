@@ -84,11 +84,11 @@ widths =
       attributes = omega arith;
     }
 
-all-typed : (n : ℕ) → AllTyped (replicate n once)
+all-typed : (n : ℕ) → AllTyped (replicate n once ++ [])
 all-typed zero = tt
 all-typed (suc n) = (widths, all-typed n)
 
-none-created : (n : ℕ) (j : Journal) → NoCreation j (replicate n once)
+none-created : (n : ℕ) (j : Journal) → NoCreation j (replicate n once ++ [])
 none-created zero j = tt
 none-created (suc n) j = (λ q. clash cc, none-created n (next j once))
 
@@ -187,17 +187,11 @@ all = record { mask = 0xFFFFFFFF; close = 0 }
 abbrev first : Record
 first = recordOf change name 80
 
-reader : (n : ℕ) → List·Memᴰ first (posted (historyAfter n)) → ReaderPromise (journalAfter n) (historyAfter n) (fresh 80 all)
+reader : (n : ℕ) → List·Memᴰ first (posted (historyAfter n))
+    → ReaderPromise (runs (next disk (create 7)) (replicate n once ++ [])) (notes start (replicate n once ++ [])) (fresh 80 all)
 reader n m =
-    subst (λ (cs : List Call). ReaderPromise (runs (next disk (create 7)) cs) (notes start cs) (fresh 80 all)) (append-nil (replicate n once))
-    (demand3 disk (create 7) start created-right refl (replicate n once) [] 80 all tt (again (all-typed n))
-    (quiet (none-created n (next disk (create 7)))) (inr (first, m, refl)) (λ z. omega arith) tt)
-  where
-    again : AllTyped (replicate n once) → AllTyped (replicate n once ++ [])
-    again t = subst AllTyped (sym (append-nil (replicate n once))) t
-
-    quiet : NoCreation (next disk (create 7)) (replicate n once) → NoCreation (next disk (create 7)) (replicate n once ++ [])
-    quiet t = subst (NoCreation (next disk (create 7))) (sym (append-nil (replicate n once))) t
+    demand3 disk (create 7) start created-right refl (replicate n once) [] 80 all tt (all-typed n) (none-created n (next disk (create 7)))
+    (inr (first, m, refl)) (λ z. omega arith) tt
 
 -- after two posts one read brings it to the end
 pub reaches-end : follow (journalAfter 2) (fresh 80 all) (mine (asks 80 600) ∷ []) .position ≡ 160

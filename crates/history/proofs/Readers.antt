@@ -97,9 +97,13 @@ guard-inv : (o : Option Status) (k : Reply) (x : Status) (bytes : List ℕ) → 
 guard-inv none k x bytes h = (refl, h)
 guard-inv (some y) k x bytes h = clash cc
 
-pub none-is : (o : Option Status) → isNone o ≡ true → o ≡ none
+none-is : (o : Option Status) → isNone o ≡ true → o ≡ none
 none-is none h = refl
 none-is (some x) h = clash cc
+
+pub formed : (h : History) (a : Read) → wellFormed h a ≡ true → (h .live ≡ true) × (argumentCheck (h .id) (a .input) (a .room) ≡ none)
+unfolding wellFormed
+formed h a w = (and-left (h .live) _ w, none-is (argumentCheck (h .id) (a .input) (a .room)) (and-right (h .live) _ w))
 
 sound-buffer : (v : Volume) (ring : List ℕ) → sound v ring ≡ true → eqb (length ring) (v .capacity) ≡ true
 unfolding sound goodMarks
@@ -215,30 +219,24 @@ page-told v page h = go (page .cut && empty (page .given)) (ap number h)
 
 pub deleted-iff : (j : Journal) (h : History) (d : Reader) → Sim j h → Stand h d → (a : Read) → Carries d a → wellFormed h a ≡ true
     → (statusOf j (read a) ≡ JournalEntryDeleted) ↔ DroppedAbove h (d .position)
-unfolding wellFormed
 deleted-iff j h d m t a c w = (there, back)
   where
-    v : h .live ≡ true
-    v = and-left (h .live) (isNone (argumentCheck (h .id) (a .input) (a .room))) w
-
-    ok : argumentCheck (h .id) (a .input) (a .room) ≡ none
-    ok = none-is (argumentCheck (h .id) (a .input) (a .room)) (and-right (h .live) (isNone (argumentCheck (h .id) (a .input) (a .room))) w)
-
-    status : Reply → Status
-    status r = answer r .status
+    g : (h .live ≡ true) × (argumentCheck (h .id) (a .input) (a .room) ≡ none)
+    g = formed h a w
 
     there : statusOf j (read a) ≡ JournalEntryDeleted → DroppedAbove h (d .position)
     there k = by (ltb (d .position) (h .first)) refl
       where
         by : (x : Bool) → ltb (d .position) (h .first) ≡ x → DroppedAbove h (d .position)
         by true q =
-            let s = some-above (h .base) (h .dropped) (h .first) (d .position) (m .shape .gone) (base-low j h m d t a c v ok) (ltb-true _ _ q) in
+            let s = some-above (h .base) (h .dropped) (h .first) (d .position) (m .shape .gone) (base-low j h m d t a c (g .0) (g .1)) (ltb-true _ _ q) in
             (s .0, s .1, omega (arith, s .2))
-        by false q = absurd (page-told _ _ (ap status (sym (told-reply j h m d t a c v ok (ltb-false _ _ q))) ∙ k))
+        by false q = absurd (page-told _ _ (ap (λ (r : Reply). answer r .status) (sym (told-reply j h m d t a c (g .0) (g .1) (ltb-false _ _ q))) ∙ k))
 
     back : DroppedAbove h (d .position) → statusOf j (read a) ≡ JournalEntryDeleted
     back r =
-        ap status (told-deleted j h m d t a c v ok (omega (arith, mem-range (h .base) (h .dropped) (h .first) (r .0) (m .shape .gone) (r .1) .1, r .2)))
+        ap (λ (r : Reply). answer r .status)
+        (told-deleted j h m d t a c (g .0) (g .1) (omega (arith, mem-range (h .base) (h .dropped) (h .first) (r .0) (m .shape .gone) (r .1) .1, r .2)))
 
 -- ---- a reply
 

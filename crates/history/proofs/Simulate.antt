@@ -36,12 +36,9 @@ use Rattle.history.specs.Calls.{Posting, Call, Journal, Called, called, 
 use Rattle.history.specs.Log.{History, posted, opened, endWith, isPosted, Shed, shed, shedTo, added, closed, notePost, notePosts, noteDelete, noteEffect, note, notes, openedBy, opening}
 use Rattle.history.specs.Demand.{isOpening, CreatesNone, NoCreation}
 use Rattle.history.proofs.Links.{Link, Chain, chain-le, chain-append, chain-eight}
-use Rattle.history.proofs.Effects.{clash, usable, with, emptied, afterPost, afterPosts, afterDelete, Does, either, unusable, does}
+use Rattle.history.proofs.Effects.{clash, and-true, usable, with, emptied, afterPost, afterPosts, afterDelete, Does, either, unusable, does}
 use Rattle.history.proofs.Sim.{Live, Sim, Grow}
-use Rattle.history.proofs.Posting.{chain-sound, chain-chained, Cut, cut, snoc, shed-snoc, shed-oldest, length-posted, posted-bytes}
-
-and-true : (a b : Bool) → a ≡ true → b ≡ true → a && b ≡ true
-and-true a b p q = rw (p, q)
+use Rattle.history.proofs.Posting.{chain-sound, chain-chained, Cut, cut, snoc, length-posted, posted-bytes}
 
 -- ---- a live journal keeps the records left
 
@@ -86,14 +83,19 @@ pub record Accepted (h : History) (c : Change) (name : List ℕ) : Type 0 where
   pub long : leb 2 (length name) ≡ true
   pub low : endWith h name < 2 ^ 63
 
-accepted : (h : History) (c : Change) (name : List ℕ) → isPosted h c name ≡ true → Accepted h c name
-unfolding isPosted postedName
-accepted h c name q =
-    let q1 = and-right (h .live) _ q in
+-- a live history takes a post by its Reason, its name and its end
+posted-live : (h : History) (c : Change) (name : List ℕ) → h .live ≡ true → isPosted h c name ≡ not (eqb (c .reason) 0) && (postedName name && ltb (endWith h name) (2 ^ 63))
+unfolding isPosted
+posted-live h c name v = rw v
+
+accepted : (h : History) (c : Change) (name : List ℕ) → h .live ≡ true → isPosted h c name ≡ true → Accepted h c name
+unfolding postedName
+accepted h c name v q =
+    let q1 = sym (posted-live h c name v) ∙ q in
     let q2 = and-right (not (eqb (c .reason) 0)) _ q1 in
     let q3 = and-left (goodName name && leb 2 (length name)) _ q2 in
     record {
-      live = and-left (h .live) _ q;
+      live = v;
       reason = and-left (not (eqb (c .reason) 0)) _ q1;
       good = and-left (goodName name) _ q3;
       long = and-right (goodName name) _ q3;
@@ -148,11 +150,11 @@ module _ (j : Journal) (h : History) (m : Sim j h) (l : Live j h) (c : Change) (
   abbrev all : Shed
   all = shed (h .capacity) end (h .first) (h .left ++ (new ∷ []))
 
-  all-is : all ≡ snoc t new
-  all-is = shed-snoc (h .capacity) end (h .first) (h .left) (h .end) new (m .shape .here) room
-
   old : Cut (h .capacity) end (h .first) (h .left) (h .end) t
   old = cut (h .capacity) end (h .first) (h .left) (h .end) (m .shape .here) room
+
+  all-is : all ≡ snoc t new
+  all-is = old .more new
 
   pieces : Cut (h .capacity) end (h .first) (h .left ++ (new ∷ [])) end all
   pieces =
@@ -167,7 +169,7 @@ module _ (j : Journal) (h : History) (m : Sim j h) (l : Live j h) (c : Change) (
   from-is =
       ap₂ (λ (x : ℕ) (y : List Record). oldest x (endOf (j .volume) name) (j .volume .first) y) (l .capacity) (kept-live j h m l)
       ∙ ap₂ (λ (x y : ℕ). oldest (h .capacity) x y (h .left)) end-is (l .first)
-      ∙ sym (shed-oldest (h .capacity) end (h .first) (h .left))
+      ∙ old .same
 
   volume-is : postedVolume (j .volume) (j .ring) name ≡ atPositions (j .volume) (t .from) end
   unfolding postedVolume
@@ -295,10 +297,6 @@ module _ (j : Journal) (h : History) (m : Sim j h) (l : Live j h) (v : h .live �
       ∙ ap₂ (λ (x y : ℕ). else (unless (postedName name) InvalidParameter)
       (unless (leb (recordLength V3 (length name)) x && ltb (y + recordLength V3 (length name)) (2 ^ 63)) DiskFull)) (l .capacity) (l .last)
 
-  posted-live : isPosted h c name ≡ not (eqb (c .reason) 0) && (postedName name && ltb (endWith h name) (2 ^ 63))
-  unfolding isPosted
-  posted-live = rw v
-
   name-fits : postedName name ≡ true → leb (recordLength V3 (length name)) (h .capacity) ≡ true
   unfolding postedName
   name-fits q =
@@ -310,7 +308,7 @@ module _ (j : Journal) (h : History) (m : Sim j h) (l : Live j h) (v : h .live �
   live-post {A} x y =
       ap₂ (λ (z : Bool) (o : Option Status). leaves (cond z Skip (checked o)) x y) skipped-live check-live
       ∙ go (eqb (c .reason) 0) (postedName name) (ltb (endWith h name) (2 ^ 63)) refl
-      ∙ ap (λ (z : Bool). cond z y x) (sym posted-live)
+      ∙ ap (λ (z : Bool). cond z y x) (sym (posted-live h c name v))
     where
       go : (z n e : Bool) → postedName name ≡ n
           → leaves (cond z Skip (checked (else (unless n InvalidParameter) (unless (leb (recordLength V3 (length name)) (h .capacity) && e) DiskFull)))) x y
@@ -367,7 +365,7 @@ module _ (j : Journal) (h : History) (m : Sim j h) where
     post-live : Widths (p .change) → h .live ≡ true → (b : Bool) → isPosted h (p .change) (p .name) ≡ b
         → Next (cond b (written j (p .change) (p .name)) j) (cond b (added h (p .change) (p .name)) h)
     post-live w v true q =
-        let a = accepted h (p .change) (p .name) q in
+        let a = accepted h (p .change) (p .name) v q in
         (added-sim j h m (m .live v) (p .change) (p .name) w a, added-grow j h m (m .live v) (p .change) (p .name) w a)
     post-live w v false q = stay
 
@@ -387,36 +385,34 @@ module _ (j : Journal) (h : History) (m : Sim j h) where
 
   -- a deletion
   module _ (id : ℕ) where
-    -- refused or not, it leaves a journal that can't be used as it finds one
+    abbrev deletes : Option Status → Journal
+    deletes o = with (performed o (j .volume) (inState (j .volume) 2) .volume) (j .ring)
+
+    -- a journal that can't be used stays so
     delete-dead : usable j ≡ false → usable (afterDelete j id) ≡ false
     delete-dead u =
         either (deleteCheck (j .volume) id) (j .volume) (inState (j .volume) 2) (λ (x : Volume). usable (with x (j .ring)) ≡ false) u
         (unusable (inState (j .volume) 2) (j .ring) refl)
 
-    delete-live : h .live ≡ true → afterDelete j id ≡ with (performed (unless (eqb id (h .id)) InvalidParameter) (j .volume) (inState (j .volume) 2) .volume) (j .ring)
-    delete-live v =
+    -- a live one is deleted if the id is its own
+    delete-live : h .live ≡ true → (e : Bool) → eqb id (h .id) ≡ e → afterDelete j id ≡ deletes (unless e InvalidParameter)
+    delete-live v e q =
         let l = m .live v in
-        ap (λ (o : Option Status). with (performed o (j .volume) (inState (j .volume) 2) .volume) (j .ring))
-        (ap₂ (λ (x y : Bool). else (else (unless (not x) JournalDeleteInProgress) (unless y JournalNotActive)) (unless (eqb id (j .volume .id)) InvalidParameter))
+        ap₂ (λ (x y : Bool). deletes (else (else (unless (not x) JournalDeleteInProgress) (unless y JournalNotActive)) (unless (eqb id (j .volume .id)) InvalidParameter)))
         (active-only (j .volume) (l .active)) (l .active)
-        ∙ ap (λ (x : ℕ). unless (eqb id x) InvalidParameter) (l .id))
+        ∙ ap (λ (x : Bool). deletes (unless x InvalidParameter)) (ap (eqb id) (l .id) ∙ q)
 
     delete-step : Next (afterDelete j id) (noteDelete h id)
     delete-step = by (eqb id (h .id)) refl (h .live) refl
       where
-        shut : (k : Journal) → usable k ≡ false → Next k (closed h)
-        shut k u = (closed-sim j k h m u, grow-closed h)
+        shut : usable (afterDelete j id) ≡ false → Next (afterDelete j id) (closed h)
+        shut u = (closed-sim j (afterDelete j id) h m u, grow-closed h)
 
         by : (e : Bool) → eqb id (h .id) ≡ e → (v : Bool) → h .live ≡ v → Next (afterDelete j id) (noteDelete h id)
-        by true q v l = subst (Next (afterDelete j id)) (sym (note-closes h id q)) (shut (afterDelete j id) (gone v l))
-          where
-            gone : (v : Bool) → h .live ≡ v → usable (afterDelete j id) ≡ false
-            gone false l = delete-dead (m .dead l)
-            gone true l = ap usable (delete-live l ∙ ap (λ (x : Bool). with (performed (unless x InvalidParameter) (j .volume) (inState (j .volume) 2) .volume) (j .ring)) q) ∙ unusable (inState (j .volume) 2) (j .ring) refl
-        by false q true l =
-            subst₂ Next (sym (delete-live l ∙ ap (λ (x : Bool). with (performed (unless x InvalidParameter) (j .volume) (inState (j .volume) 2) .volume) (j .ring)) q)) (sym (note-keeps h id q)) stay
-        by false q false l =
-            subst (Next (afterDelete j id)) (sym (note-keeps h id q)) (dead-sim j (afterDelete j id) h m l (delete-dead (m .dead l)), grow-same h)
+        by true q true v = rw (note-closes h id q) (shut (ap usable (delete-live v true q) ∙ unusable (inState (j .volume) 2) (j .ring) refl))
+        by true q false v = rw (note-closes h id q) (shut (delete-dead (m .dead v)))
+        by false q true v = rw (note-keeps h id q, delete-live v false q) stay
+        by false q false v = rw (note-keeps h id q) (dead-sim j (afterDelete j id) h m v (delete-dead (m .dead v)), grow-same h)
 
   -- a live history's journal can be used
   live-usable : h .live ≡ true → usable j ≡ true

@@ -32,7 +32,7 @@ use Rattle.history.proofs.Effects.{clash}
 use Rattle.history.proofs.Sim.{Sim, Grow}
 use Rattle.history.proofs.Chains.{filter-chain, filter-none, above-low, above-all, above-append, after-here, after-mem, some-above, first-fits}
 use Rattle.history.proofs.Simulate.{sim-step, opening-sim, nil-parts, sim-run, grow-run}
-use Rattle.history.proofs.Readers.{whole, Stand, stand-boundary, stand-grow, none-is, told-reply, deleted-iff, Advance, own-reply, refusal, stand-step, stand-run}
+use Rattle.history.proofs.Readers.{whole, Stand, stand-boundary, stand-grow, formed, told-reply, deleted-iff, Advance, own-reply, refusal, stand-step, stand-run}
 
 -- ---- progress
 
@@ -63,26 +63,14 @@ enough b n room h k = omega (arith, leb-true n room (and-right b (leb n room) h)
 answered : (j : Journal) (h : History) (d : Reader) → Sim j h → Stand h d → h .first ≤ d .position
     → (a : Read) → Carries d a → counts h (mine a) ≡ true
     → (bytes : List ℕ) × (replyTo j a ≡ give Success bytes)
-unfolding wellFormed
-answered j h d m t low a k w = (_, told-reply j h m d t a k live ok low ∙ reply-full (versionOf (a .input)) _ fit)
-  where
-    formed : h .live && isNone (argumentCheck (h .id) (a .input) (a .room)) ≡ true
-    formed = and-left (h .live && isNone (argumentCheck (h .id) (a .input) (a .room))) _ w
-
-    room : 592 ≤ a .room - 8
-    room = enough (h .live && isNone (argumentCheck (h .id) (a .input) (a .room))) _ (a .room) w (omega arith)
-
-    live : h .live ≡ true
-    live = and-left (h .live) (isNone (argumentCheck (h .id) (a .input) (a .room))) formed
-
-    ok : argumentCheck (h .id) (a .input) (a .room) ≡ none
-    ok = none-is (argumentCheck (h .id) (a .input) (a .room)) (and-right (h .live) (isNone (argumentCheck (h .id) (a .input) (a .room))) formed)
-
-    page : Page
-    page = pageOf (versionOf (a .input)) (d .filter) (a .room - 8) (d .position) (t .rest)
-
-    fit : page .cut && empty (page .given) ≡ false
-    fit = first-fits (versionOf (a .input)) (d .filter) (a .room - 8) (d .position) (t .rest) (h .end) (stand-boundary j h d m t .beyond) room
+answered j h d m t low a k w =
+    let g = formed h a (and-left (wellFormed h a) _ w) in
+    let page = pageOf (versionOf (a .input)) (d .filter) (a .room - 8) (d .position) (t .rest) in (
+      _,
+      told-reply j h m d t a k (g .0) (g .1) low ∙ reply-full (versionOf (a .input)) page
+          (first-fits (versionOf (a .input)) (d .filter) (a .room - 8) (d .position) (t .rest) (h .end) (stand-boundary j h d m t .beyond)
+          (enough (wellFormed h a) _ (a .room) w (omega arith))),
+    )
 
 -- the reader is at the end, or has reads enough before it
 abbrev Soon : History → Reader → ℕ → Type 0
@@ -230,31 +218,16 @@ promise j h d m t =
 
 -- ---- the whole list
 
-typed-parts : (x y : List Call) → AllTyped (x ++ y) → AllTyped x × AllTyped y
-typed-parts [] y h = (tt, h)
-typed-parts (c ∷ x) y h = let k = typed-parts x y (h .1) in ((h .0, k .0), k .1)
-
-none-parts : (x y : List Call) (j : Journal) → NoCreation j (x ++ y) → NoCreation j x × NoCreation (runs j x) y
-none-parts [] y j h = (tt, h)
-none-parts (c ∷ x) y j h = let k = none-parts x y (next j c) (h .1) in ((h .0, k .0), k .1)
-
-runs-append : (x y : List Call) (j : Journal) → runs j (x ++ y) ≡ runs (runs j x) y
-runs-append [] y j = refl
-runs-append (c ∷ x) y j = runs-append x y (next j c)
-
-notes-append : (x y : List Call) (h : History) → notes h (x ++ y) ≡ notes (notes h x) y
-notes-append [] y h = refl
-notes-append (c ∷ x) y h = notes-append x y (note h c)
+-- a reader that starts after the calls `before`
+module _ (ts : List Turn) (start : ℕ) (f : Filter) (pos : start ≡ 0 → ⊥) where
+  from : (before : List Call) (j : Journal) (h : History) → Sim j h → AllTyped (before ++ map callOf ts) → NoCreation j (before ++ map callOf ts)
+      → Startable (notes h before) start → Chosen (runs j before) (fresh start f) ts
+      → ReaderPromise (runs j (before ++ map callOf ts)) (notes h (before ++ map callOf ts)) (follow (runs j before) (fresh start f) ts)
+  from [] j h m y n at own =
+      promise (runs j (map callOf ts)) (notes h (map callOf ts)) (follow j (fresh start f) ts) (sim-run (map callOf ts) j h m y n)
+      (stand-run ts j h (fresh start f) m (stand-fresh j h m start f pos at) y n own)
+  from (c ∷ before) j h m y n at own = from before (next j c) (note h c) (sim-step j h m c (y .0) (n .0) .0) (y .1) (n .1) at own
 
 -- the promise to every reader, over every list of calls from a creation on
 pub demand3 : Demand3
-demand3 j c h k o before ts start f w y n at pos own =
-    let j₁ : Journal = next j c in
-    let us : List Call = map callOf ts in
-    let ys = typed-parts before us y in
-    let ns = none-parts before us j₁ n in
-    let m = sim-run before j₁ h (opening-sim j c h w k o) (ys .0) (ns .0) in
-    let t = stand-fresh (runs j₁ before) (notes h before) m start f pos at in
-    subst₂ (λ (x : Journal) (z : History). ReaderPromise x z (follow (runs j₁ before) (fresh start f) ts)) (sym (runs-append before us j₁)) (sym (notes-append before us h))
-    (promise (runs (runs j₁ before) us) (notes (notes h before) us) (follow (runs j₁ before) (fresh start f) ts)
-    (sim-run us (runs j₁ before) (notes h before) m (ys .1) (ns .1)) (stand-run ts (runs j₁ before) (notes h before) (fresh start f) m t (ys .1) (ns .1) own))
+demand3 j c h k o before ts start f w y n at pos own = from ts start f pos before (next j c) h (opening-sim j c h w k o) y n at own
