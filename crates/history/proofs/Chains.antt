@@ -97,7 +97,7 @@ after-drop b (r ∷ rs) f p l h k =
     after-next b p r (rs ++ l) (omega (arith, link-rises b r (h .0), chain-le (r .fields .usn) rs f (h .1)))
     ∙ after-drop (r .fields .usn) rs f p l (h .1) k
 
--- a list split at an boundary
+-- a list split at a boundary
 pub record Boundary (f p : ℕ) (l t : List Record) (e : ℕ) : Type 0 where
   pub before : List Record
   pub parts : l ≡ before ++ t
@@ -186,56 +186,33 @@ pub record Split (f : Filter) (p : ℕ) (l : List Record) (e : ℕ) (c : Page) :
   pub waiting : c .cut ≡ true → 1 ≤ length (filter (selects f) remain)
 
 module _ (f : Filter) (p : ℕ) (r : Record) (rs : List Record) (e : ℕ) (h : Chain p (r ∷ rs) e) where
-  split-turn : (b₁ b₂ : Bool) (passed taken : Page) → selects f r ≡ b₁
-      → Split f (r .fields .usn) rs e passed → Split f (r .fields .usn) rs e taken
-      → Split f p (r ∷ rs) e (pageStep b₁ b₂ r p passed taken)
-  split-turn false b₂ passed taken q s t =
+  -- the record r passed over or taken, before the rest of the page
+  split-past : (c : Page) (given : List Record) (s : Split f (r .fields .usn) rs e c) → given ≡ filter (selects f) (r ∷ s .taken)
+      → Split f p (r ∷ rs) e (record { given = given; position = c .position; cut = c .cut })
+  split-past c given s q =
       record {
         taken = r ∷ s .taken;
         remain = s .remain;
         parts = ap (λ (x : List Record). r ∷ x) (s .parts);
         upto = (h .0, s .upto);
         beyond = s .beyond;
-        given = rw q (s .given);
+        given = q;
         whole = s .whole;
         waiting = s .waiting;
       }
-  split-turn true true passed taken q s t =
-      record {
-        taken = r ∷ t .taken;
-        remain = t .remain;
-        parts = ap (λ (x : List Record). r ∷ x) (t .parts);
-        upto = (h .0, t .upto);
-        beyond = t .beyond;
-        given = rw q (ap (λ (x : List Record). r ∷ x) (t .given));
-        whole = t .whole;
-        waiting = t .waiting;
-      }
+
+  split-turn : (b₁ b₂ : Bool) (passed taken : Page) → selects f r ≡ b₁
+      → Split f (r .fields .usn) rs e passed → Split f (r .fields .usn) rs e taken
+      → Split f p (r ∷ rs) e (pageStep b₁ b₂ r p passed taken)
+  split-turn false b₂ passed taken q s t = split-past passed (passed .given) s (rw q (s .given))
+  split-turn true true passed taken q s t = split-past taken (r ∷ taken .given) t (rw q (ap (λ (x : List Record). r ∷ x) (t .given)))
   split-turn true false passed taken q s t =
-      record {
-        taken = [];
-        remain = r ∷ rs;
-        parts = refl;
-        upto = refl;
-        beyond = h;
-        given = refl;
-        whole = λ z. clash cc;
-        waiting = λ z. rw q (omega arith);
-      }
+      record { taken = []; remain = r ∷ rs; parts = refl; upto = refl; beyond = h; given = refl; whole = λ z. clash cc; waiting = λ z. rw q (omega arith) }
 
 pub split : (v : Version) (f : Filter) (room p : ℕ) (l : List Record) (e : ℕ) → Chain p l e → Split f p l e (pageOf v f room p l)
 unfolding pageOf
 split v f room p [] e h =
-    record {
-      taken = [];
-      remain = [];
-      parts = refl;
-      upto = refl;
-      beyond = h;
-      given = refl;
-      whole = λ z. h;
-      waiting = λ z. clash cc;
-    }
+    record { taken = []; remain = []; parts = refl; upto = refl; beyond = h; given = refl; whole = λ z. h; waiting = λ z. clash cc }
 split v f room p (r ∷ rs) e h =
     split-turn f p r rs e h (selects f r) (fits v room r) _ _ refl (split v f room (r .fields .usn) rs e (h .1))
     (split v f (room - lengthOf (inVersion v r)) (r .fields .usn) rs e (h .1))

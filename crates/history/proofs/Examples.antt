@@ -1,13 +1,13 @@
 -- The examples of the journal, and the promise to readers at one list of calls.
 -- Assumes nothing.
-use mathlib.Core.Path.{_≡_, refl, sym, ap, ap₂, _∙_, subst}
-use mathlib.Core.Logic.{_⊎_, inl, inr}
-use mathlib.Core.Bool.{Bool, true, false}
-use mathlib.Core.List.{List, [], _∷_, _++_, map, List·Memᴰ, List·Memᴰ·head, List·Memᴰ·tail, List·Memᴰ·not-nil, append-nil}
-use mathlib.Core.Option.{Option, none, some}
-use Prim.Native.Nat.{ℕ, zero, suc, _+_}
+use mathlib.Core.Path.{_≡_, refl, ap, ap₂, _∙_}
+use mathlib.Core.Logic.{inr}
+use mathlib.Core.Bool.{true}
+use mathlib.Core.List.{List, [], _∷_, _++_, map, List·Memᴰ, List·Memᴰ·head, List·Memᴰ·tail, List·Memᴰ·not-nil}
+use mathlib.Core.Option.{none}
+use Prim.Native.Nat.{ℕ, zero, suc}
 use native.Mathlib.Omega.{arith}
-use lib.ListN.{length, replicate, length-replicate}
+use lib.ListN.{replicate}
 use Rattle.le.specs.Numbers.{le, unle, numberAt, encode}
 use Rattle.status.specs.declared.Status.the-variants.{Success, InvalidParameter, BufferTooSmall, JournalEntryDeleted}
 use Rattle.status.specs.Reply.{Reply, refuse, give, answer}
@@ -22,9 +22,9 @@ use Rattle.journal_read.specs.Input.{argumentCheck}
 use Rattle.journal_page.specs.Select.{wanted}
 use Rattle.journal_page.specs.Page.{fits, pageOf, pageReply}
 use Rattle.journal_read.specs.Read.{isDeleted, origin, deletedCheck, readAnswer}
-use Rattle.history.specs.Calls.{Read, Posting, Call, create, post, read, Journal, replyTo, statusOf, next, runs, Widths, AllTyped}
+use Rattle.history.specs.Calls.{Read, Call, create, post, read, Journal, replyTo, statusOf, next, runs, Widths, AllTyped}
 use Rattle.history.specs.Log.{History, posted, opened, isPosted, shed, added, notePost, notes}
-use Rattle.history.specs.Reading.{Reader, fresh, Turn, mine, follow}
+use Rattle.history.specs.Reading.{fresh, mine, follow}
 use Rattle.history.specs.Demand.{NoCreation, above, wellFormed, ReaderPromise}
 use Rattle.history.proofs.Effects.{clash}
 use Rattle.history.proofs.Sim.{Sim, Live}
@@ -74,15 +74,7 @@ told = historyAfter 13
 
 widths : Widths change
 widths =
-    record {
-      file = omega arith;
-      parent = omega arith;
-      time = omega arith;
-      reason = omega arith;
-      source = omega arith;
-      security = omega arith;
-      attributes = omega arith;
-    }
+    record { file = omega arith; parent = omega arith; time = omega arith; reason = omega arith; source = omega arith; security = omega arith; attributes = omega arith }
 
 all-typed : (n : ℕ) → AllTyped (replicate n once ++ [])
 all-typed zero = tt
@@ -99,21 +91,16 @@ created-right = refl
 sim : Sim after told
 sim = sim-run (replicate 13 once) (next disk (create 7)) start (opening-sim disk (create 7) start tt created-right refl) (all-typed 13) (none-created 13 (next disk (create 7)))
 
-live : told .live ≡ true
+told-right : (told .live ≡ true) × (told .first ≡ 80) × (told .end ≡ 1040)
 unfolding opened isPosted shed added notePost postedName goodName
-live = refl
+told-right = (refl, refl, refl)
 
-told-first : told .first ≡ 80
-unfolding opened isPosted shed added notePost postedName goodName
-told-first = refl
-
-told-end : told .end ≡ 1040
-unfolding opened isPosted shed added notePost postedName goodName
-told-end = refl
+live : Live after told
+live = sim .live (told-right .0)
 
 -- first 80, LastUsn 1,040
 pub thirteen-right : (after .volume .first ≡ 80) × (after .volume .last ≡ 1040)
-thirteen-right = (sim .live live .first ∙ told-first, sim .live live .last ∙ told-end)
+thirteen-right = (live .first ∙ told-right .1, live .last ∙ told-right .2)
 
 -- ---- reads of it
 
@@ -162,7 +149,7 @@ examples =
 
 answered : (start room : ℕ) → argumentCheck 7 (asks start room .input) room ≡ none → replyTo after (asks start room) ≡ readAnswer 80 (told .left) (asks start room .input) room
 unfolding opened isPosted shed added notePost postedName goodName
-answered start room ok = reply-live after told sim live (asks start room) ok
+answered start room ok = reply-live after told sim (told-right .0) (asks start room) ok
 
 -- each read gives its reply
 pub reads-right : map (λ (e : Example). replyTo after (asks (e .start) (e .room))) examples ≡ map (λ (e : Example). e .reply) examples

@@ -132,7 +132,7 @@ module _ (v : Volume) (ring : List ℕ) (gone rest : List Record) (from : ℕ) (
   high : from ≤ v .last
   high = chain-le from rest (v .last) b
 
-  pub length-posted : length (placed ring at (bytesOf r)) ≡ length ring
+  length-posted : length (placed ring at (bytesOf r)) ≡ length ring
   length-posted = length-placed ring at (bytesOf r) (omega (arith, at-lt)) (omega (arith, new-bytes, high))
 
   -- the kept bytes of before, without those that are dropped
@@ -141,9 +141,9 @@ module _ (v : Volume) (ring : List ℕ) (gone rest : List Record) (from : ℕ) (
       ap (drop (from - v .first)) (joined-append gone rest)
       ∙ drop-at (joined gone) (joined rest) (from - v .first) (omega (arith, chain-length (v .first) gone from a))
 
-  pub posted-bytes : keptBytes (atPositions v from (v .last + lengthOf r)) (placed ring at (bytesOf r)) ≡ joined (rest ++ (r ∷ []))
+  kept-posted : keptBytes (atPositions v from (v .last + lengthOf r)) (placed ring at (bytesOf r)) ≡ joined (rest ++ (r ∷ []))
   unfolding keptBytes
-  posted-bytes =
+  kept-posted =
       let d : ℕ = v .last - v .first in
       let g : ℕ = from - v .first in
       let n : v .last + lengthOf r - from ≡ d - g + length (bytesOf r) = omega (arith, new-bytes, low, high) in
@@ -156,3 +156,7 @@ module _ (v : Volume) (ring : List ℕ) (gone rest : List Record) (from : ℕ) (
       ∙ ap (λ (z : List ℕ). drop g z ++ bytesOf r) kept
       ∙ ap₂ _++_ rest-bytes (sym (joined-one r))
       ∙ sym (joined-append rest (r ∷ []))
+
+  pub posted-bytes : (length (placed ring at (bytesOf r)) ≡ length ring)
+      × (keptBytes (atPositions v from (v .last + lengthOf r)) (placed ring at (bytesOf r)) ≡ joined (rest ++ (r ∷ [])))
+  posted-bytes = (length-posted, kept-posted)

@@ -10,7 +10,7 @@ use native.Mathlib.Omega.{arith}
 use lib.Dec.{ltb, eqb}
 use lib.ListN.{length, drop, length-append}
 use lib.Seq.{take-at, drop-at}
-use borrow.Author.Tests.{ltb-true, ltb-false, eqb-true, lt-ltb, le-ltb, lt-leb, ne-eqb}
+use borrow.Author.Tests.{ltb-true, ltb-false, lt-ltb, le-ltb, lt-leb, ne-eqb}
 use Rattle.le.specs.Numbers.{le, numberAt}
 use Rattle.le.proofs.Numbers.{unle-le, length-le}
 use Rattle.le.proofs.Runs.{and-left, and-right}
@@ -37,7 +37,7 @@ use Rattle.history.specs.Reading.{Received, Reader, advanced, told, Turn
 use Rattle.history.specs.Demand.{filter, between, CreatesNone, NoCreation, DroppedAbove, isNone, wellFormed}
 use Rattle.history.proofs.Links.{Chain, chain-le, chain-append}
 use Rattle.history.proofs.Effects.{clash, usable}
-use Rattle.history.proofs.Sim.{Live, Sim, Grow}
+use Rattle.history.proofs.Sim.{Sim, Grow}
 use Rattle.history.proofs.Chains.{filter-append, between-append, between-high, between-all, between-top, after-drop, after-boundary, after-append, Boundary, boundary, mem-range, some-above, Split, split, page-alike}
 use Rattle.history.proofs.Simulate.{kept-live, sound-live, active-only, sim-step}
 
@@ -46,16 +46,14 @@ whole j h m = chain-append (h .base) (h .dropped) (h .first) (h .left) (h .end) 
 
 -- ---- replies
 
--- one more reply holds the records that are its bytes behind the position
-pub hold-more : (ss : List Received) (rs more : List Record) (s : Received) → Hold ss rs → drop 8 (s .bytes) ≡ joined (map (inVersion (s .version)) more)
-    → Hold (ss ++ (s ∷ [])) (rs ++ more)
-hold-more [] rs more s k b = (more, [], ap (λ (x : List Record). x ++ more) k ∙ sym (append-nil more), b, refl)
-hold-more (x ∷ ss) rs more s k b = (
+pub hold-append : (ss ts : List Received) (rs more : List Record) → Hold ss rs → Hold ts more → Hold (ss ++ ts) (rs ++ more)
+hold-append [] ts rs more k t = subst (λ (x : List Record). Hold ts (x ++ more)) (sym k) t
+hold-append (s ∷ ss) ts rs more k t = (
   k .0,
   k .1 ++ more,
   ap (λ (y : List Record). y ++ more) (k .2) ∙ append-assoc (k .0) (k .1) more,
   k .3,
-  hold-more ss (k .1) more s (k .4) b,
+  hold-append ss ts (k .1) more (k .4) t,
 )
 
 -- ---- a reader that stands rightly in the history
@@ -344,7 +342,8 @@ module _ (j : Journal) (h : History) (m : Sim j h) (d : Reader) (t : Stand h d) 
     step-handed : Hold (advanced a bytes d .handed) (sel (β q (posted h)))
     step-handed =
         subst (Hold (advanced a bytes d .handed)) grown
-        (hold-more (d .handed) (sel (β (d .position) (posted h))) (sel (sp .taken)) (record { version = w; bytes = bytes }) (t .handed) behind)
+        (hold-append (d .handed) (record { version = w; bytes = bytes } ∷ []) (sel (β (d .position) (posted h))) (sel (sp .taken)) (t .handed)
+        (sel (sp .taken), [], sym (append-nil (sel (sp .taken))), behind, refl))
 
     step-boundary : recordsAfter (h .base) q (posted h) ≡ some (sp .remain)
     step-boundary =
@@ -389,27 +388,20 @@ own-reply j h m d t a c x bytes k = by (ltb (d .position) (h .first)) refl
         (reply-inv _ _ x bytes z .success, advance j h m d t a (a .room - 8) x bytes z)
 
 -- only SUCCESS has the number 0
-success-is : (x : Status) → eqb (number x) 0 ≡ true → x ≡ Success
-success-is Success h = refl
-success-is BufferOverflow h = clash cc
-success-is InvalidParameter h = clash cc
-success-is InvalidDeviceRequest h = clash cc
-success-is BufferTooSmall h = clash cc
-success-is DiskFull h = clash cc
-success-is FileCorruptError h = clash cc
-success-is NotAReparsePoint h = clash cc
-success-is VolumeNotUpgraded h = clash cc
-success-is JournalDeleteInProgress h = clash cc
-success-is JournalNotActive h = clash cc
-success-is JournalEntryDeleted h = clash cc
-
 pub refusal : (a : Read) (d : Reader) (r : Reply) → (answer r .status ≡ Success → ⊥) → told a r d ≡ d
 refusal a d (refuse x) n = refl
-refusal a d (give x bytes) n = go (eqb (number x) 0) refl
-  where
-    go : (b : Bool) → eqb (number x) 0 ≡ b → cond b (advanced a bytes d) d ≡ d
-    go true e = absurd (n (success-is x e))
-    go false e = refl
+refusal a d (give Success bytes) n = absurd (n refl)
+refusal a d (give BufferOverflow bytes) n = refl
+refusal a d (give InvalidParameter bytes) n = refl
+refusal a d (give InvalidDeviceRequest bytes) n = refl
+refusal a d (give BufferTooSmall bytes) n = refl
+refusal a d (give DiskFull bytes) n = refl
+refusal a d (give FileCorruptError bytes) n = refl
+refusal a d (give NotAReparsePoint bytes) n = refl
+refusal a d (give VolumeNotUpgraded bytes) n = refl
+refusal a d (give JournalDeleteInProgress bytes) n = refl
+refusal a d (give JournalNotActive bytes) n = refl
+refusal a d (give JournalEntryDeleted bytes) n = refl
 
 -- one call of the list
 pub stand-step : (j : Journal) (h : History) (d : Reader) → Sim j h → Stand h d → (u : Turn) → Typed (callOf u) → CreatesNone j (callOf u) → Own d u

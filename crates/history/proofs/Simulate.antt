@@ -1,9 +1,9 @@
 -- A journal and its history go together through every call.
 -- Assumes nothing.
 use mathlib.Core.Path.{_≡_, refl, sym, ap, ap₂, _∙_, subst, subst₂}
-use mathlib.Core.Logic.{_⊎_, inl, inr}
+use mathlib.Core.Logic.{inl, inr}
 use mathlib.Core.Bool.{Bool, true, false, not, cond, and-false, _&&_, _||_}
-use mathlib.Core.Option.{Option, none, some}
+use mathlib.Core.Option.{Option, some}
 use mathlib.Core.List.{List, [], _∷_, _++_, append-assoc, append-nil, nil≢cons}
 use Prim.Native.Nat.{ℕ, zero, suc, _+_, _-_, _%_, _^_, _≤_, _<_}
 use native.Mathlib.Omega.{arith}
@@ -20,7 +20,7 @@ use Rattle.volume.specs.State.{supported, isActive, isDeleting, goodCapacity, g
 use Rattle.volume.specs.Calls.{performed, inState, atPositions, deleteCheck}
 use Rattle.volume.proofs.Marks.{capacity-facts, position-facts}
 use Rattle.usn_record.specs.declared.Version.the-variants.{V3}
-use Rattle.usn_record.specs.Layout.{recordLength, shown, goodName, Record, bytesOf, lengthOf}
+use Rattle.usn_record.specs.Layout.{recordLength, shown, goodName, Record, bytesOf}
 use Rattle.usn_record.proofs.Name.{short}
 use Rattle.record_reader.proofs.Judge.{shown-same, shown-lt}
 use Rattle.reply_walker.specs.Reply.{whole, recordList, records, joined}
@@ -38,7 +38,7 @@ use Rattle.history.specs.Demand.{isOpening, CreatesNone, NoCreation}
 use Rattle.history.proofs.Links.{Link, Chain, chain-le, chain-append, chain-eight}
 use Rattle.history.proofs.Effects.{clash, and-true, usable, with, emptied, afterPost, afterPosts, afterDelete, Does, either, unusable, does}
 use Rattle.history.proofs.Sim.{Live, Sim, Grow}
-use Rattle.history.proofs.Posting.{chain-sound, chain-chained, Cut, cut, snoc, length-posted, posted-bytes}
+use Rattle.history.proofs.Posting.{chain-sound, chain-chained, Cut, cut, snoc, posted-bytes}
 
 -- ---- a live journal keeps the records left
 
@@ -138,28 +138,14 @@ module _ (j : Journal) (h : History) (m : Sim j h) (l : Live j h) (c : Change) (
         };
       }
 
-  fits : recordLength V3 (length name) ≤ h .capacity
-  fits = omega (arith, short name (p .good), capacity-facts (h .capacity) (m .shape .capacity))
-
   room : end - h .end ≤ h .capacity
-  room = omega (arith, fits)
+  room = omega (arith, short name (p .good), capacity-facts (h .capacity) (m .shape .capacity))
 
   abbrev t : Shed
   t = shed (h .capacity) end (h .first) (h .left)
 
-  abbrev all : Shed
-  all = shed (h .capacity) end (h .first) (h .left ++ (new ∷ []))
-
   old : Cut (h .capacity) end (h .first) (h .left) (h .end) t
   old = cut (h .capacity) end (h .first) (h .left) (h .end) (m .shape .here) room
-
-  all-is : all ≡ snoc t new
-  all-is = old .more new
-
-  pieces : Cut (h .capacity) end (h .first) (h .left ++ (new ∷ [])) end all
-  pieces =
-      cut (h .capacity) end (h .first) (h .left ++ (new ∷ [])) end
-      (chain-append (h .first) (h .left) (h .end) (new ∷ []) end (m .shape .here) (new-link, refl)) (omega arith)
 
   end-is : endOf (j .volume) name ≡ end
   end-is = ap (λ (x : ℕ). x + recordLength V3 (length name)) (l .last)
@@ -171,101 +157,75 @@ module _ (j : Journal) (h : History) (m : Sim j h) (l : Live j h) (c : Change) (
       ∙ ap₂ (λ (x y : ℕ). oldest (h .capacity) x y (h .left)) end-is (l .first)
       ∙ old .same
 
-  volume-is : postedVolume (j .volume) (j .ring) name ≡ atPositions (j .volume) (t .from) end
-  unfolding postedVolume
-  volume-is = ap₂ (atPositions (j .volume)) from-is end-is
-
-  ring-is : postedRing (j .volume) (j .ring) c name ≡ placed (j .ring) (j .volume .last % length (j .ring)) (bytesOf new)
-  unfolding postedRing
-  ring-is = ap (λ (x : ℕ). placed (j .ring) (j .volume .last % length (j .ring)) (bytesOf (recordOf c name x))) end-is
-
+  -- journal and history after the post
   abbrev after : Journal
-  after = record { volume = atPositions (j .volume) (t .from) end; ring = placed (j .ring) (j .volume .last % length (j .ring)) (bytesOf new) }
+  after = with (atPositions (j .volume) (t .from) end) (placed (j .ring) (j .volume .last % length (j .ring)) (bytesOf new))
+
+  abbrev grown : History
+  grown = shedTo h end (snoc t new)
+
+  added-is : added h c name ≡ grown
+  unfolding added
+  added-is = ap (shedTo h end) (old .more new)
 
   written-is : written j c name ≡ after
-  written-is = ap₂ (λ (x : Volume) (y : List ℕ). record { volume = x; ring = y }) volume-is ring-is
+  unfolding postedVolume postedRing
+  written-is =
+      ap₂ with (ap₂ (atPositions (j .volume)) from-is end-is)
+      (ap (λ (x : ℕ). placed (j .ring) (j .volume .last % length (j .ring)) (bytesOf (recordOf c name x))) end-is)
 
-  from-same : t .from ≡ all .from
-  from-same = ap (λ (x : Shed). x .from) (sym all-is)
+  after-kept : (length (after .ring) ≡ length (j .ring)) × (keptBytes (after .volume) (after .ring) ≡ joined (grown .left))
+  after-kept =
+      let k =
+      posted-bytes (j .volume) (j .ring) (t .gone) (t .rest) (t .from) new
+      (omega (arith, l .buffer, l .capacity, capacity-facts (h .capacity) (m .shape .capacity)))
+      (subst (λ (x : ℕ). Chain x (t .gone) (t .from)) (sym (l .first)) (old .gone))
+      (subst (λ (x : ℕ). Chain (t .from) (t .rest) x) (sym (l .last)) (old .rest))
+      (l .bytes ∙ ap joined (old .parts))
+      (omega (arith, l .first, l .last, l .capacity, l .buffer, m .shape .span))
+      (omega (arith, l .last, l .capacity, l .buffer, old .span)) in
+      (k .0, ap (λ (x : ℕ). keptBytes (atPositions (j .volume) (t .from) x) (after .ring)) (sym end-is) ∙ k .1)
 
-  filled : 0 < length (j .ring)
-  filled = omega (arith, l .buffer, l .capacity, capacity-facts (h .capacity) (m .shape .capacity))
-
-  gone-chain : Chain (j .volume .first) (t .gone) (t .from)
-  gone-chain = subst (λ (x : ℕ). Chain x (t .gone) (t .from)) (sym (l .first)) (old .gone)
-
-  rest-chain : Chain (t .from) (t .rest) (j .volume .last)
-  rest-chain = subst (λ (x : ℕ). Chain (t .from) (t .rest) x) (sym (l .last)) (old .rest)
-
-  kept-parts : keptBytes (j .volume) (j .ring) ≡ joined (t .gone ++ t .rest)
-  kept-parts = l .bytes ∙ ap joined (old .parts)
-
-  span-fits : j .volume .last - j .volume .first ≤ length (j .ring)
-  span-fits = omega (arith, l .first, l .last, l .capacity, l .buffer, m .shape .span)
-
-  room-fits : j .volume .last + lengthOf new - t .from ≤ length (j .ring)
-  room-fits = omega (arith, l .last, l .capacity, l .buffer, old .span)
-
-  ring-size : length (after .ring) ≡ length (j .ring)
-  ring-size = length-posted (j .volume) (j .ring) (t .gone) (t .rest) (t .from) new filled gone-chain rest-chain kept-parts span-fits room-fits
-
-  after-bytes : keptBytes (after .volume) (after .ring) ≡ joined (all .rest)
-  after-bytes =
-      ap (λ (x : ℕ). keptBytes (atPositions (j .volume) (t .from) x) (after .ring)) (sym end-is)
-      ∙ posted-bytes (j .volume) (j .ring) (t .gone) (t .rest) (t .from) new filled gone-chain rest-chain kept-parts span-fits room-fits
-      ∙ ap (λ (x : Shed). joined (x .rest)) (sym all-is)
-
-  after-live : Live after (shedTo h end all)
-  after-live =
-      record {
-        supported = l .supported;
-        active = l .active;
-        buffer = ring-size ∙ l .buffer;
-        capacity = l .capacity;
-        id = l .id;
-        first = from-same;
-        last = refl;
-        bytes = after-bytes;
-      }
-
-  after-sim : Sim after (shedTo h end all)
+  after-sim : Sim after grown
   after-sim =
       record {
         shape = record {
-          gone = chain-append (h .base) (h .dropped) (h .first) (all .gone) (all .from) (m .shape .gone) (pieces .gone);
-          here = pieces .rest;
+          gone = chain-append (h .base) (h .dropped) (h .first) (t .gone) (t .from) (m .shape .gone) (old .gone);
+          here = chain-append (t .from) (t .rest) (h .end) (new ∷ []) end (old .rest) (new-link, refl);
           low = p .low;
-          firstEight = chain-eight (h .first) (all .gone) (all .from) (pieces .gone) (m .shape .firstEight);
+          firstEight = chain-eight (h .first) (t .gone) (t .from) (old .gone) (m .shape .firstEight);
           endEight = omega (arith, m .shape .endEight);
           capacity = m .shape .capacity;
-          span = pieces .span;
+          span = old .span;
         };
-        live = λ q. after-live;
+        live = λ q. record {
+          supported = l .supported;
+          active = l .active;
+          buffer = after-kept .0 ∙ l .buffer;
+          capacity = l .capacity;
+          id = l .id;
+          first = refl;
+          last = refl;
+          bytes = after-kept .1;
+        };
         dead = λ q. let l : h .live ≡ true = p .live in clash cc;
       }
 
-  added-sim : Sim (written j c name) (added h c name)
-  unfolding added
-  added-sim = subst (λ (x : Journal). Sim x (shedTo h end all)) (sym written-is) after-sim
-
-  -- the history's posted records after the post
-  added-posted : posted (added h c name) ≡ posted h ++ (new ∷ [])
-  unfolding added
-  added-posted =
-      append-assoc (h .dropped) (all .gone) (all .rest)
-      ∙ ap (λ (x : List Record). h .dropped ++ x) (sym (pieces .parts))
-      ∙ sym (append-assoc (h .dropped) (h .left) (new ∷ []))
-
-  added-grow : Grow h (added h c name)
-  unfolding added
-  added-grow =
+  after-grow : Grow h grown
+  after-grow =
       record {
         more = new ∷ [];
-        parts = added-posted;
+        parts =
+            append-assoc (h .dropped) (t .gone) (t .rest ++ (new ∷ []))
+            ∙ ap (λ (x : List Record). h .dropped ++ x) (sym (append-assoc (t .gone) (t .rest) (new ∷ [])) ∙ ap (λ (x : List Record). x ++ (new ∷ [])) (sym (old .parts)))
+            ∙ sym (append-assoc (h .dropped) (h .left) (new ∷ []));
         chain = (new-link, refl);
         base = refl;
         calm = λ z. absurd (nil≢cons (sym z));
       }
+
+  added-next : Sim (written j c name) (added h c name) × Grow h (added h c name)
+  added-next = subst₂ (λ (x : Journal) (y : History). Sim x y × Grow h y) (sym written-is) (sym added-is) (after-sim, after-grow)
 
 -- a journal that can't be used is left by a post
 dead-post : (j : Journal) (c : Change) (name : List ℕ) → usable j ≡ false → {A : Type 0} (x y : A) → leaves (verdict (j .volume) (j .ring) c name) x y ≡ x
@@ -365,8 +325,7 @@ module _ (j : Journal) (h : History) (m : Sim j h) where
     post-live : Widths (p .change) → h .live ≡ true → (b : Bool) → isPosted h (p .change) (p .name) ≡ b
         → Next (cond b (written j (p .change) (p .name)) j) (cond b (added h (p .change) (p .name)) h)
     post-live w v true q =
-        let a = accepted h (p .change) (p .name) v q in
-        (added-sim j h m (m .live v) (p .change) (p .name) w a, added-grow j h m (m .live v) (p .change) (p .name) w a)
+        added-next j h m (m .live v) (p .change) (p .name) w (accepted h (p .change) (p .name) v q)
     post-live w v false q = stay
 
     posted-dead : h .live ≡ false → isPosted h (p .change) (p .name) ≡ false

@@ -1,6 +1,6 @@
 -- What every reader is promised: progress, and the whole promise over every list of calls.
 -- Assumes nothing.
-use mathlib.Core.Path.{_≡_, refl, sym, ap, ap₂, _∙_, subst, subst₂}
+use mathlib.Core.Path.{_≡_, refl, sym, ap, ap₂, _∙_, subst}
 use mathlib.Core.Logic.{_⊎_, inl, inr}
 use mathlib.Core.Bool.{Bool, true, false, cond, _&&_}
 use mathlib.Core.Option.{none, some}
@@ -20,13 +20,13 @@ use Rattle.usn_record.specs.Layout.{Record}
 use Rattle.reply_walker.specs.Reply.{positionOf}
 use Rattle.journal.specs.Boundary.{recordsAfter}
 use Rattle.journal_page.specs.declared.Filter.{Filter}
-use Rattle.journal_read.specs.Input.{versionOf, argumentCheck}
+use Rattle.journal_read.specs.Input.{versionOf}
 use Rattle.journal_page.specs.Select.{selects}
 use Rattle.journal_page.specs.Page.{Page, pageOf, empty, pageBytes, pageReply}
 use Rattle.history.specs.Calls.{Read, Call, Journal, replyTo, next, runs, AllTyped}
 use Rattle.history.specs.Log.{History, posted, note, notes}
 use Rattle.history.specs.Reading.{Reader, fresh, advanced, told, Turn, mine, other, callOf, follow, Carries, Chosen}
-use Rattle.history.specs.Demand.{filter, between, above, Rising, Startable, DroppedAbove, NoCreation, isNone, wellFormed, one, counts, ample, ReaderPromise, Demand3}
+use Rattle.history.specs.Demand.{filter, between, above, Rising, Startable, DroppedAbove, NoCreation, wellFormed, one, counts, ample, ReaderPromise, Demand3}
 use Rattle.history.proofs.Links.{Chain, chain-le, link-rises}
 use Rattle.history.proofs.Effects.{clash}
 use Rattle.history.proofs.Sim.{Sim, Grow}
@@ -100,7 +100,8 @@ module _ (j : Journal) (h : History) (d : Reader) (m : Sim j h) (t : Stand h d) 
           inr (omega (arith, v .sum, one-le x, e .0, e .1, s .0, s .1), omega (arith, v .sum, one-le x, e .0, e .1, s .0, s .1))
 
   -- one of the reader's own reads
-  soon-mine : (a : Read) → Carries d a → (k : ℕ) → Soon h d (one (counts h (mine a)) + k) → Soon h (told a (replyTo j a) d) k
+  soon-mine : (a : Read) → Carries d a → (k : ℕ) → Soon h d (one (counts h (mine a)) + k)
+      → (h .first ≤ told a (replyTo j a) d .position) × Soon h (told a (replyTo j a) d) k
   soon-mine a c k s = go (replyTo j a) refl (counts h (mine a)) refl s
     where
       same : (x : Bool) → (x ≡ true → ⊥) → Soon h d (one x + k) → Soon h d k
@@ -108,22 +109,12 @@ module _ (j : Journal) (h : History) (d : Reader) (m : Sim j h) (t : Stand h d) 
       same false n (inl s) = inl s
       same false n (inr s) = inr (omega arith, omega arith)
 
-      go : (r : Reply) → replyTo j a ≡ r → (x : Bool) → counts h (mine a) ≡ x → Soon h d (one x + k) → Soon h (told a r d) k
-      go (refuse i) e x q s =
-          same x (λ z. let w = answered j h d m t low a c (q ∙ z) in refuse-give i Success (w .0) (sym e ∙ w .1)) s
+      go : (r : Reply) → replyTo j a ≡ r → (x : Bool) → counts h (mine a) ≡ x → Soon h d (one x + k) → (h .first ≤ told a r d .position) × Soon h (told a r d) k
+      go (refuse i) e x q s = (low, same x (λ z. let w = answered j h d m t low a c (q ∙ z) in refuse-give i Success (w .0) (sym e ∙ w .1)) s)
       go (give i bytes) e x q s =
           let o = own-reply j h m d t a c i bytes e in
-          subst (λ (y : Status). Soon h (told a (give y bytes) d) k) (sym (o .0)) (soon-reply a bytes x k (o .1) s)
-
-  low-mine : (a : Read) → Carries d a → h .first ≤ told a (replyTo j a) d .position
-  low-mine a c = go (replyTo j a) refl
-    where
-      go : (r : Reply) → replyTo j a ≡ r → h .first ≤ told a r d .position
-      go (refuse i) e = low
-      go (give i bytes) e =
-          let o = own-reply j h m d t a c i bytes e in
           let z : h .first ≤ positionOf bytes = omega (arith, o .1 .rises, low) in
-          subst (λ (y : Status). h .first ≤ told a (give y bytes) d .position) (sym (o .0)) z
+          subst (λ (y : Status). (h .first ≤ told a (give y bytes) d .position) × Soon h (told a (give y bytes) d) k) (sym (o .0)) (z, soon-reply a bytes x k (o .1) s)
 
   -- a call of anybody that posts nothing
   module _ (k : History) (g : Grow h k) (n : g .more ≡ []) where
@@ -145,9 +136,8 @@ progress : (us : List Turn) (j : Journal) (h : History) (d : Reader) → Sim j h
 progress [] j h d m t low y n c quiet (inl s) = s
 progress [] j h d m t low y n c quiet (inr s) = absurd (omega arith)
 progress (mine a ∷ us) j h d m t low y n c quiet soon =
-    progress us j h (told a (replyTo j a) d) m (stand-step j h d m t (mine a) (y .0) (n .0) (c .0)) (low-mine j h d m t low a (c .0))
-    (y .1) (n .1) (c .1) quiet
-    (soon-mine j h d m t low a (c .0) (ample h us) soon)
+    let s = soon-mine j h d m t low a (c .0) (ample h us) soon in
+    progress us j h (told a (replyTo j a) d) m (stand-step j h d m t (mine a) (y .0) (n .0) (c .0)) (s .0) (y .1) (n .1) (c .1) quiet (s .1)
 progress (other k ∷ us) j h d m t low y n c quiet soon =
     let s = sim-step j h m k (y .0) (n .0) in
     let rest = grow-run (map callOf us) (next j k) (note h k) (s .0) (y .1) (n .1) in
