@@ -22,7 +22,7 @@ use Rattle.journal_read.specs.Input.{argumentCheck}
 use Rattle.journal_page.specs.Select.{wanted}
 use Rattle.journal_page.specs.Page.{fits, pageOf, pageReply}
 use Rattle.journal_read.specs.Read.{isDeleted, origin, deletedCheck, readAnswer}
-use Rattle.history.specs.Calls.{Read, Call, create, post, read, Journal, replyTo, statusOf, next, runs, Widths, AllTyped}
+use Rattle.history.specs.Calls.{Read, Posting, create, post, read, Journal, replyTo, statusOf, next, runs, Widths, AllTyped}
 use Rattle.history.specs.Log.{History, posted, opened, isPosted, shed, added, notePost, notes}
 use Rattle.history.specs.Reading.{fresh, mine, follow}
 use Rattle.history.specs.Demand.{NoCreation, above, wellFormed, ReaderPromise}
@@ -47,28 +47,25 @@ disk =
       ring = replicate 1024 0;
     }
 
-abbrev pub once : Call
-once = post (record { change = change; name = name })
+abbrev pub posting : Posting
+posting = record { change = change; name = name }
 
 abbrev pub journalAfter : ℕ → Journal
-journalAfter n = runs (next disk (create 7)) (replicate n once)
+journalAfter n = runs (next disk (create 7)) (replicate n (post posting))
+
+-- the history: opened at position 0
+abbrev pub historyAfter : ℕ → History
+historyAfter n = notes (opened (disk .volume) 1024 0 7) (replicate n (post posting))
 
 abbrev pub after : Journal
 after = journalAfter 13
 
+abbrev pub told : History
+told = historyAfter 13
+
 -- all records from a start on, in version 2, with so much room
 abbrev pub asks : ℕ → ℕ → Read
 asks start room = record { input = le 8 start ++ (le 4 0xFFFFFFFF ++ (le 4 0 ++ (le 8 0 ++ (le 8 0 ++ le 8 7)))); room = room }
-
--- as the history has it: empty at position 0, then the posts
-abbrev pub start : History
-start = opened (disk .volume) 1024 0 7
-
-abbrev pub historyAfter : ℕ → History
-historyAfter n = notes start (replicate n once)
-
-abbrev pub told : History
-told = historyAfter 13
 
 -- ---- the journal that they leave
 
@@ -76,20 +73,20 @@ widths : Widths change
 widths =
     record { file = omega arith; parent = omega arith; time = omega arith; reason = omega arith; source = omega arith; security = omega arith; attributes = omega arith }
 
-all-typed : (n : ℕ) → AllTyped (replicate n once ++ [])
+all-typed : (n : ℕ) → AllTyped (replicate n (post posting) ++ [])
 all-typed zero = tt
 all-typed (suc n) = (widths, all-typed n)
 
-none-created : (n : ℕ) (j : Journal) → NoCreation j (replicate n once ++ [])
+none-created : (n : ℕ) (j : Journal) → NoCreation j (replicate n (post posting) ++ [])
 none-created zero j = tt
-none-created (suc n) j = (λ q. clash cc, none-created n (next j once))
+none-created (suc n) j = (λ q. clash cc, none-created n (next j (post posting)))
 
 created-right : statusOf disk (create 7) ≡ Success
 unfolding goodCapacity goodPosition
 created-right = refl
 
 sim : Sim after told
-sim = sim-run (replicate 13 once) (next disk (create 7)) start (opening-sim disk (create 7) start tt created-right refl) (all-typed 13) (none-created 13 (next disk (create 7)))
+sim = sim-run (replicate 13 (post posting)) (next disk (create 7)) (historyAfter 0) (opening-sim disk (create 7) (historyAfter 0) tt created-right refl) (all-typed 13) (none-created 13 (next disk (create 7)))
 
 told-right : (told .live ≡ true) × (told .first ≡ 80) × (told .end ≡ 1040)
 unfolding opened isPosted shed added notePost postedName goodName
@@ -113,7 +110,8 @@ pub record Example : Type 0 where
 abbrev pub row : ℕ → ℕ → Reply → Example
 row start room reply = record { start = start; room = room; reply = reply }
 
--- position 240 and two records of version 2, eight bytes to a line
+-- position 240, then two records of version 2, in lines of eight bytes: length and version, file, parent, Usn, time,
+-- reason and source, security and attributes, and the name's length, offset and bytes
 abbrev pub two : List ℕ
 two =
     240 ∷ 0 ∷ 0 ∷ 0 ∷ 0 ∷ 0 ∷ 0 ∷ 0
@@ -175,9 +173,9 @@ abbrev first : Record
 first = recordOf change name 80
 
 reader : (n : ℕ) → List·Memᴰ first (posted (historyAfter n))
-    → ReaderPromise (runs (next disk (create 7)) (replicate n once ++ [])) (notes start (replicate n once ++ [])) (fresh 80 all)
+    → ReaderPromise (runs (next disk (create 7)) (replicate n (post posting) ++ [])) (notes (historyAfter 0) (replicate n (post posting) ++ [])) (fresh 80 all)
 reader n m =
-    demand3 disk (create 7) start created-right refl (replicate n once) [] 80 all tt (all-typed n) (none-created n (next disk (create 7)))
+    demand3 disk (create 7) (historyAfter 0) created-right refl (replicate n (post posting)) [] 80 all tt (all-typed n) (none-created n (next disk (create 7)))
     (inr (first, m, refl)) (λ z. omega arith) tt
 
 -- after two posts one read brings it to the end

@@ -324,8 +324,7 @@ module _ (j : Journal) (h : History) (m : Sim j h) where
 
     post-live : Widths (p .change) → h .live ≡ true → (b : Bool) → isPosted h (p .change) (p .name) ≡ b
         → Next (cond b (written j (p .change) (p .name)) j) (cond b (added h (p .change) (p .name)) h)
-    post-live w v true q =
-        added-next j h m (m .live v) (p .change) (p .name) w (accepted h (p .change) (p .name) v q)
+    post-live w v true q = added-next j h m (m .live v) (p .change) (p .name) w (accepted h (p .change) (p .name) v q)
     post-live w v false q = stay
 
     posted-dead : h .live ≡ false → isPosted h (p .change) (p .name) ≡ false
