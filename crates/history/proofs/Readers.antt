@@ -39,7 +39,7 @@ use Rattle.history.proofs.Links.{Chain, chain-le, chain-append}
 use Rattle.history.proofs.Effects.{clash, usable}
 use Rattle.history.proofs.Sim.{Sim, Grow}
 use Rattle.history.proofs.Chains.{filter-append, between-append, between-high, between-all, between-top, after-drop, after-boundary, after-append, Boundary, boundary, mem-range, some-above, Split, split, page-alike}
-use Rattle.history.proofs.Simulate.{kept-live, sound-live, active-only, sim-step}
+use Rattle.history.proofs.Simulate.{kept-live, sound-live, active-none, sim-step}
 
 pub whole : (j : Journal) (h : History) → Sim j h → Chain (h .base) (posted h) (h .end)
 whole j h m = chain-append (h .base) (h .dropped) (h .first) (h .left) (h .end) (m .shape .gone) (m .shape .here)
@@ -112,9 +112,7 @@ sound-buffer v ring h =
 check-none : (v : Volume) (input : List ℕ) (room : ℕ) → supported (v .journal) ≡ true → isActive v ≡ true → argumentCheck (v .id) input room ≡ none
     → readCheck v input room ≡ none
 check-none v input room s a c =
-    ap (λ (b : Bool). else (unless b InvalidDeviceRequest) (else (activeCheck v) (argumentCheck (v .id) input room))) s
-    ∙ ap₂ (λ (x y : Bool). else (else (unless (not x) JournalDeleteInProgress) (unless y JournalNotActive)) (argumentCheck (v .id) input room)) (active-only v a) a
-    ∙ c
+    ap₂ (λ (b : Bool) (o : Option Status). else (unless b InvalidDeviceRequest) (else o (argumentCheck (v .id) input room))) s (active-none v a) ∙ c
 
 -- what a reply tells: the checks passed
 module _ (v : Volume) (ring input : List ℕ) (room : ℕ) (x : Status) (bytes : List ℕ) where

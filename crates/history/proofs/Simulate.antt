@@ -3,7 +3,7 @@
 use mathlib.Core.Path.{_≡_, refl, sym, ap, ap₂, _∙_, subst, subst₂}
 use mathlib.Core.Logic.{inl, inr}
 use mathlib.Core.Bool.{Bool, true, false, not, cond, and-false, _&&_, _||_}
-use mathlib.Core.Option.{Option, some}
+use mathlib.Core.Option.{Option, none, some}
 use mathlib.Core.List.{List, [], _∷_, _++_, append-assoc, append-nil, nil≢cons}
 use Prim.Native.Nat.{ℕ, zero, suc, _+_, _-_, _%_, _^_, _≤_, _<_}
 use native.Mathlib.Omega.{arith}
@@ -16,7 +16,7 @@ use Rattle.status.specs.declared.Status.the-variants.{Success, InvalidParameter
 use Rattle.status.specs.Check.{unless, else}
 use Rattle.ring.specs.Ring.{rotated, placed}
 use Rattle.volume.specs.declared.Volume.{Volume}
-use Rattle.volume.specs.State.{supported, isActive, isDeleting, goodCapacity, goodPosition}
+use Rattle.volume.specs.State.{supported, isActive, activeCheck, goodCapacity, goodPosition}
 use Rattle.volume.specs.Calls.{performed, inState, atPositions, deleteCheck}
 use Rattle.volume.proofs.Marks.{capacity-facts, position-facts}
 use Rattle.usn_record.specs.declared.Version.the-variants.{V3}
@@ -293,8 +293,8 @@ leaves-both Skip v w r s = refl
 leaves-both (Reject x) v w r s = refl
 leaves-both Accept v w r s = refl
 
-pub active-only : (v : Volume) → isActive v ≡ true → isDeleting v ≡ false
-active-only v e = ap (λ (x : ℕ). eqb x 2) (eqb-true (v .state) 1 e)
+pub active-none : (v : Volume) → isActive v ≡ true → activeCheck v ≡ none
+active-none v e = ap (λ (x : ℕ). else (unless (not (eqb x 2)) JournalDeleteInProgress) (unless (eqb x 1) JournalNotActive)) (eqb-true (v .state) 1 e)
 
 note-posted : (h : History) (p : Posting) (b : Bool) → isPosted h (p .change) (p .name) ≡ b → notePost h p ≡ cond b (added h (p .change) (p .name)) h
 unfolding notePost
@@ -356,8 +356,7 @@ module _ (j : Journal) (h : History) (m : Sim j h) where
     delete-live : h .live ≡ true → (e : Bool) → eqb id (h .id) ≡ e → afterDelete j id ≡ deletes (unless e InvalidParameter)
     delete-live v e q =
         let l = m .live v in
-        ap₂ (λ (x y : Bool). deletes (else (else (unless (not x) JournalDeleteInProgress) (unless y JournalNotActive)) (unless (eqb id (j .volume .id)) InvalidParameter)))
-        (active-only (j .volume) (l .active)) (l .active)
+        ap (λ (o : Option Status). deletes (else o (unless (eqb id (j .volume .id)) InvalidParameter))) (active-none (j .volume) (l .active))
         ∙ ap (λ (x : Bool). deletes (unless x InvalidParameter)) (ap (eqb id) (l .id) ∙ q)
 
     delete-step : Next (afterDelete j id) (noteDelete h id)

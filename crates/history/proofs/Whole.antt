@@ -80,12 +80,6 @@ one-le : (x : Bool) → one x ≤ 1
 one-le true = omega arith
 one-le false = omega arith
 
-append-same : (x y : List Record) → x ++ y ≡ x → y ≡ []
-append-same x y h = append-cancel-left x y [] (h ∙ sym (append-nil x))
-
-refuse-give : (x y : Status) (bytes : List ℕ) → refuse x ≡ give y bytes → ⊥
-refuse-give x y bytes e = clash cc
-
 module _ (j : Journal) (h : History) (d : Reader) (m : Sim j h) (t : Stand h d) (low : h .first ≤ d .position) where
   soon-reply : (a : Read) (bytes : List ℕ) (x : Bool) (k : ℕ) → Advance h d t a bytes → Soon h d (one x + k) → Soon h (advanced a bytes d) k
   soon-reply a bytes x k v s = go (v .ends) s
@@ -110,7 +104,7 @@ module _ (j : Journal) (h : History) (d : Reader) (m : Sim j h) (t : Stand h d) 
       same false n (inr s) = inr (omega arith, omega arith)
 
       go : (r : Reply) → replyTo j a ≡ r → (x : Bool) → counts h (mine a) ≡ x → Soon h d (one x + k) → (h .first ≤ told a r d .position) × Soon h (told a r d) k
-      go (refuse i) e x q s = (low, same x (λ z. let w = answered j h d m t low a c (q ∙ z) in refuse-give i Success (w .0) (sym e ∙ w .1)) s)
+      go (refuse i) e x q s = (low, same x (λ z. let w = answered j h d m t low a c (q ∙ z) in let z : refuse i ≡ give Success (w .0) = sym e ∙ w .1 in clash cc) s)
       go (give i bytes) e x q s =
           let o = own-reply j h m d t a c i bytes e in
           let z : h .first ≤ positionOf bytes = omega (arith, o .1 .rises, low) in
@@ -143,11 +137,12 @@ progress (other k ∷ us) j h d m t low y n c quiet soon =
     let rest = grow-run (map callOf us) (next j k) (note h k) (s .0) (y .1) (n .1) in
     let calm : s .1 .more ≡ [] =
     nil-parts (s .1 .more) (rest .more)
-    (append-same (posted h) (s .1 .more ++ rest .more)
+    (append-cancel-left (posted h) (s .1 .more ++ rest .more) []
     (sym (append-assoc (posted h) (s .1 .more) (rest .more))
     ∙ ap (λ (x : List Record). x ++ rest .more) (sym (s .1 .parts))
     ∙ sym (rest .parts)
-    ∙ quiet))
+    ∙ quiet
+    ∙ sym (append-nil (posted h))))
     .0 in
     progress us (next j k) (note h k) d (s .0) (stand-grow j h (note h k) d m (s .1) t) (omega (arith, s .1 .calm calm, low)) (y .1) (n .1) (c .1)
     (quiet ∙ sym (same-posted j h d m t low (note h k) (s .1) calm))
