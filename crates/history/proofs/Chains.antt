@@ -12,11 +12,11 @@ use lib.Dec.{leb, ltb, eqb}
 use lib.ListN.{length}
 use borrow.Author.Tests.{ltb-true, ltb-false, eqb-true, lt-ltb, le-ltb, le-leb, lt-leb, eq-eqb, ne-eqb}
 use Rattle.usn_record.specs.declared.Version.{Version}
-use Rattle.usn_record.specs.Layout.{Record, lengthOf}
+use Rattle.usn_record.specs.Layout.{Record, lengthOf, inVersion}
 use Rattle.journal.specs.Boundary.{recordsAfter}
 use Rattle.journal_page.specs.declared.Filter.{Filter}
 use Rattle.journal_page.specs.Select.{wanted, selects}
-use Rattle.journal_page.specs.Page.{inVersion, fits, Page, pageStep, pageOf, empty}
+use Rattle.journal_page.specs.Page.{fits, Page, pageStep, pageOf, empty}
 use Rattle.history.specs.Reading.{Alike}
 use Rattle.history.specs.Demand.{keep, filter, between, above}
 use Rattle.history.proofs.Links.{Chain, chain-le, link-rises, link-short}

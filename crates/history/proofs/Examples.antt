@@ -13,7 +13,7 @@ use Rattle.status.specs.declared.Status.the-variants.{Success, InvalidParameter
 use Rattle.status.specs.Reply.{Reply, refuse, give, answer}
 use Rattle.volume.specs.State.{goodCapacity, goodPosition}
 use Rattle.usn_record.specs.Layout.{layout, goodName, Record}
-use Rattle.reply_walker.specs.Reply.{joined}
+use Rattle.records.specs.Records.{joined}
 use Rattle.journal.specs.Boundary.{recordsAfter}
 use Rattle.journal_post.specs.declared.Change.{Change}
 use Rattle.journal_post.specs.Post.{postedName, recordOf}

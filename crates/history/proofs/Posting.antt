@@ -16,8 +16,8 @@ use Rattle.volume.specs.declared.Volume.{Volume}
 use Rattle.volume.specs.Calls.{atPositions}
 use Rattle.usn_record.specs.Layout.{Record, bytesOf, lengthOf}
 use Rattle.usn_record.proofs.Record.{length-layout}
-use Rattle.reply_walker.specs.Reply.{joined}
-use Rattle.reply_walker.proofs.Replies.{AllSound}
+use Rattle.records.specs.Records.{joined}
+use Rattle.records.proofs.Runs.{AllSound}
 use Rattle.journal.specs.Kept.{keptBytes, chained}
 use Rattle.journal.specs.Boundary.{oldest}
 use Rattle.history.specs.Log.{Shed, dropping, shed}

@@ -23,13 +23,14 @@ use Rattle.status.proofs.Checking.{else-none, unless-true}
 use Rattle.volume.specs.declared.Volume.{Volume}
 use Rattle.volume.specs.State.{supported, isActive, isDeleting, activeCheck, goodCapacity}
 use Rattle.usn_record.specs.declared.Version.{Version}
-use Rattle.usn_record.specs.Layout.{Record}
-use Rattle.reply_walker.specs.Reply.{positionOf, joined, records}
+use Rattle.usn_record.specs.Layout.{Record, inVersion}
+use Rattle.records.specs.Records.{joined, records}
+use Rattle.reply_walker.specs.Reply.{positionOf}
 use Rattle.journal.specs.Kept.{keptBytes, inChain, goodMarks, sound, kept}
 use Rattle.journal.specs.Boundary.{recordsAfter}
 use Rattle.journal_read.specs.Input.{filterOf, versionOf, argumentCheck}
 use Rattle.journal_page.specs.Select.{selects}
-use Rattle.journal_page.specs.Page.{inVersion, Page, pageOf, empty, pageBytes, pageReply}
+use Rattle.journal_page.specs.Page.{Page, pageOf, empty, pageBytes, pageReply}
 use Rattle.journal_read.specs.Read.{isDeleted, origin, deletedCheck, answerFrom, readAnswer, readCheck, readReply}
 use Rattle.history.specs.Calls.{Read, read, Journal, replyTo, statusOf, next, Typed, AllTyped}
 use Rattle.history.specs.Log.{History, posted, note, notes}

@@ -23,8 +23,8 @@ use Rattle.usn_record.specs.declared.Version.the-variants.{V3}
 use Rattle.usn_record.specs.Layout.{recordLength, shown, goodName, Record, bytesOf}
 use Rattle.usn_record.proofs.Name.{short}
 use Rattle.record_reader.proofs.Judge.{shown-same, shown-lt}
-use Rattle.reply_walker.specs.Reply.{whole, recordList, records, joined}
-use Rattle.reply_walker.proofs.Replies.{joined-read}
+use Rattle.records.specs.Records.{whole, recordList, records, joined}
+use Rattle.records.proofs.Runs.{joined-read}
 use Rattle.journal.specs.Kept.{keptBytes, keeps, chained, inChain, goodMarks, sound, kept}
 use Rattle.journal.specs.Boundary.{oldest}
 use Rattle.journal.proofs.Boundaries.{facts-marks, facts-sound}

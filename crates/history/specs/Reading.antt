@@ -8,11 +8,11 @@ use lib.ListN.{drop}
 use Rattle.status.specs.Number.{number}
 use Rattle.status.specs.Reply.{Reply, refuse, give}
 use Rattle.usn_record.specs.declared.Version.{Version}
-use Rattle.usn_record.specs.Layout.{Record}
-use Rattle.reply_walker.specs.Reply.{positionOf, joined}
+use Rattle.usn_record.specs.Layout.{Record, inVersion}
+use Rattle.records.specs.Records.{joined}
+use Rattle.reply_walker.specs.Reply.{positionOf}
 use Rattle.journal_page.specs.declared.Filter.{Filter}
 use Rattle.journal_read.specs.Input.{startOf, filterOf, versionOf}
-use Rattle.journal_page.specs.Page.{inVersion}
 use Rattle.history.specs.Calls.{Read, Call, read, Journal, replyTo, next}
 
 -- a SUCCESS reply as the reader has it: the version asked for, and all of the reply's bytes
