@@ -20,6 +20,7 @@ use Rattle.journal_page.specs.Page.{fits, Page, pageStep, pageOf, empty}
 use Rattle.history.specs.Reading.{Alike}
 use Rattle.history.specs.Demand.{keep, filter, between, above}
 use Rattle.history.proofs.Links.{Chain, chain-le, link-rises, link-short}
+use Rattle.history.proofs.Effects.{clash, and-true}
 
 -- ---- filters
 
@@ -54,7 +55,7 @@ module _ (a b p : ℕ) (l : List Record) (e : ℕ) (h : Chain p l e) where
   pub between-all : a ≤ p → e ≤ b → between a b l ≡ l
   unfolding between
   between-all k j =
-      filter-chain _ (λ (r : Record). true) p l e h (λ r lo hi. rw (lt-ltb a (r .fields .usn) (omega arith), le-leb (r .fields .usn) b (omega arith)))
+      filter-chain _ (λ (r : Record). true) p l e h (λ r lo hi. and-true _ _ (lt-ltb a _ (omega arith)) (le-leb _ b (omega arith)))
       ∙ filter-all l
 
   pub between-high : b ≤ p → between a b l ≡ []
@@ -96,27 +97,18 @@ after-drop b (r ∷ rs) f p l h k =
     after-next b p r (rs ++ l) (omega (arith, link-rises b r (h .0), chain-le (r .fields .usn) rs f (h .1)))
     ∙ after-drop (r .fields .usn) rs f p l (h .1) k
 
--- a list split at an boundary
+-- a list split at a boundary
 pub record Boundary (f p : ℕ) (l t : List Record) (e : ℕ) : Type 0 where
   pub before : List Record
   pub parts : l ≡ before ++ t
   pub upto : Chain f before p
   pub beyond : Chain p t e
 
-some-inj : {A : Type 0} (a b : A) → some a ≡ some b → a ≡ b
-some-inj a b h = cc
-
-none-some : {A : Type 0} (a : A) → none ≡ some a → ⊥
-none-some a h = let z : _≡_ {A = ℕ} 0 1 = cc in omega arith
-
 boundary-here : (f p : ℕ) (l t : List Record) (e : ℕ) → Chain f l e → eqb f p ≡ true → some l ≡ some t → Boundary f p l t e
 boundary-here f p l t e h q k =
-    record {
-      before = [];
-      parts = some-inj l t k;
-      upto = eqb-true f p q;
-      beyond = subst₂ (λ (x : ℕ) (y : List Record). Chain x y e) (eqb-true f p q) (some-inj l t k) h;
-    }
+    let s : l ≡ t = cc in
+    let z : f ≡ p = eqb-true f p q in
+    record { before = []; parts = s; upto = z; beyond = subst₂ (λ (x : ℕ) (y : List Record). Chain x y e) z s h }
 
 pub boundary : (f p : ℕ) (l t : List Record) (e : ℕ) → Chain f l e → recordsAfter f p l ≡ some t → Boundary f p l t e
 unfolding recordsAfter
@@ -124,7 +116,7 @@ boundary f p [] t e h k = go (eqb f p) refl k
   where
     go : (b : Bool) → eqb f p ≡ b → cond b (some []) none ≡ some t → Boundary f p [] t e
     go true q k = boundary-here f p [] t e h q k
-    go false q k = absurd (none-some t k)
+    go false q k = clash cc
 boundary f p (r ∷ rs) t e h k = go (eqb f p) refl k (boundary (r .fields .usn) p rs t e (h .1))
   where
     go : (b : Bool) → eqb f p ≡ b → cond b (some (r ∷ rs)) (recordsAfter (r .fields .usn) p rs) ≡ some t
@@ -193,60 +185,34 @@ pub record Split (f : Filter) (p : ℕ) (l : List Record) (e : ℕ) (c : Page) :
   pub whole : c .cut ≡ false → c .position ≡ e
   pub waiting : c .cut ≡ true → 1 ≤ length (filter (selects f) remain)
 
-false-true : {A : Type 0} → false ≡ true → A
-false-true q = absurd (let z : _≡_ {A = ℕ} 0 1 = cc in omega arith)
-
 module _ (f : Filter) (p : ℕ) (r : Record) (rs : List Record) (e : ℕ) (h : Chain p (r ∷ rs) e) where
-  split-turn : (b₁ b₂ : Bool) (passed taken : Page) → selects f r ≡ b₁
-      → Split f (r .fields .usn) rs e passed → Split f (r .fields .usn) rs e taken
-      → Split f p (r ∷ rs) e (pageStep b₁ b₂ r p passed taken)
-  split-turn false b₂ passed taken q s t =
+  -- the record r passed over or taken, before the rest of the page
+  split-past : (c : Page) (given : List Record) (s : Split f (r .fields .usn) rs e c) → given ≡ filter (selects f) (r ∷ s .taken)
+      → Split f p (r ∷ rs) e (record { given = given; position = c .position; cut = c .cut })
+  split-past c given s q =
       record {
         taken = r ∷ s .taken;
         remain = s .remain;
         parts = ap (λ (x : List Record). r ∷ x) (s .parts);
         upto = (h .0, s .upto);
         beyond = s .beyond;
-        given = rw q (s .given);
+        given = q;
         whole = s .whole;
         waiting = s .waiting;
       }
-  split-turn true true passed taken q s t =
-      record {
-        taken = r ∷ t .taken;
-        remain = t .remain;
-        parts = ap (λ (x : List Record). r ∷ x) (t .parts);
-        upto = (h .0, t .upto);
-        beyond = t .beyond;
-        given = rw q (ap (λ (x : List Record). r ∷ x) (t .given));
-        whole = t .whole;
-        waiting = t .waiting;
-      }
+
+  split-turn : (b₁ b₂ : Bool) (passed taken : Page) → selects f r ≡ b₁
+      → Split f (r .fields .usn) rs e passed → Split f (r .fields .usn) rs e taken
+      → Split f p (r ∷ rs) e (pageStep b₁ b₂ r p passed taken)
+  split-turn false b₂ passed taken q s t = split-past passed (passed .given) s (rw q (s .given))
+  split-turn true true passed taken q s t = split-past taken (r ∷ taken .given) t (rw q (ap (λ (x : List Record). r ∷ x) (t .given)))
   split-turn true false passed taken q s t =
-      record {
-        taken = [];
-        remain = r ∷ rs;
-        parts = refl;
-        upto = refl;
-        beyond = h;
-        given = refl;
-        whole = λ z. false-true (sym z);
-        waiting = λ z. rw q (omega arith);
-      }
+      record { taken = []; remain = r ∷ rs; parts = refl; upto = refl; beyond = h; given = refl; whole = λ z. clash cc; waiting = λ z. rw q (omega arith) }
 
 pub split : (v : Version) (f : Filter) (room p : ℕ) (l : List Record) (e : ℕ) → Chain p l e → Split f p l e (pageOf v f room p l)
 unfolding pageOf
 split v f room p [] e h =
-    record {
-      taken = [];
-      remain = [];
-      parts = refl;
-      upto = refl;
-      beyond = h;
-      given = refl;
-      whole = λ z. h;
-      waiting = λ z. false-true z;
-    }
+    record { taken = []; remain = []; parts = refl; upto = refl; beyond = h; given = refl; whole = λ z. h; waiting = λ z. clash cc }
 split v f room p (r ∷ rs) e h =
     split-turn f p r rs e h (selects f r) (fits v room r) _ _ refl (split v f room (r .fields .usn) rs e (h .1))
     (split v f (room - lengthOf (inVersion v r)) (r .fields .usn) rs e (h .1))

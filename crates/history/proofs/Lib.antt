@@ -1,4 +1,5 @@
 pub mod Links
+pub mod Effects
 pub mod Sim
 pub mod Posting
 pub mod Simulate

@@ -1,15 +1,15 @@
 -- Records as bytes in the ring, the oldest dropped, and a new one written behind them.
 -- Assumes nothing.
-use mathlib.Core.Path.{_≡_, refl, sym, ap, ap₂, _∙_}
+use mathlib.Core.Path.{_≡_, refl, sym, ap, ap₂, _∙_, subst}
 use mathlib.Core.Bool.{Bool, true, false, cond}
 use mathlib.Core.List.{List, [], _∷_, _++_, append-assoc, append-nil}
 use Prim.Native.Nat.{ℕ, _+_, _-_, _%_, _≤_, _<_}
 use native.Mathlib.Nat.{mod-lt}
 use native.Mathlib.Omega.{arith}
-use lib.Dec.{leb, ltb}
+use lib.Dec.{leb}
 use lib.ListN.{length, take, drop, length-append}
 use lib.Seq.{drop-at}
-use borrow.Author.Tests.{ltb-true, ltb-false, le-ltb, le-leb, lt-leb}
+use borrow.Author.Tests.{leb-true, leb-false, le-leb, lt-leb, le-ltb, lt-ltb}
 use Rattle.ring.specs.Ring.{rotated, placed}
 use Rattle.ring.proofs.Rotating.{length-placed, kept-placed}
 use Rattle.volume.specs.declared.Volume.{Volume}
@@ -53,49 +53,63 @@ chain-chained p (r ∷ rs) e h = rw (h .0 .kept) (chain-chained (r .fields .usn)
 
 -- ---- dropping
 
--- the history drops as the journal does
-pub shed-oldest : (cap end f : ℕ) (l : List Record) → shed cap end f l .from ≡ oldest cap end f l
-unfolding shed oldest
-shed-oldest cap end f [] = refl
-shed-oldest cap end f (r ∷ rs) = go (ltb cap (end - f)) refl (shed-oldest cap end (r .fields .usn) rs)
-  where
-    go : (x : Bool) → ltb cap (end - f) ≡ x → shed cap end (r .fields .usn) rs .from ≡ oldest cap end (r .fields .usn) rs
-        → cond x (dropping r (shed cap end (r .fields .usn) rs)) (record { gone = []; from = f; rest = r ∷ rs }) .from
-        ≡ cond (leb (end - f) cap) f (oldest cap end (r .fields .usn) rs)
-    go true q ih = rw (lt-leb (end - f) cap (ltb-true cap (end - f) q)) ih
-    go false q ih = rw (le-leb (end - f) cap (ltb-false cap (end - f) q))
+-- nothing is dropped where all fits
+shed-stop : (cap end f : ℕ) (l : List Record) → end - f ≤ cap → shed cap end f l ≡ record { gone = []; from = f; rest = l }
+unfolding shed
+shed-stop cap end f [] k = refl
+shed-stop cap end f (r ∷ rs) k =
+    ap (λ (b : Bool). cond b (dropping r (shed cap end (r .fields .usn) rs)) (record { gone = []; from = f; rest = r ∷ rs })) (le-ltb cap _ (omega arith))
+
+-- the oldest record is dropped where not
+shed-more : (cap end f : ℕ) (r : Record) (rs : List Record) → cap < end - f → shed cap end f (r ∷ rs) ≡ dropping r (shed cap end (r .fields .usn) rs)
+unfolding shed
+shed-more cap end f r rs k =
+    ap (λ (b : Bool). cond b (dropping r (shed cap end (r .fields .usn) rs)) (record { gone = []; from = f; rest = r ∷ rs })) (lt-ltb cap _ (omega arith))
+
+oldest-stop : (cap end f : ℕ) (l : List Record) → end - f ≤ cap → oldest cap end f l ≡ f
+unfolding oldest
+oldest-stop cap end f [] k = refl
+oldest-stop cap end f (r ∷ rs) k = rw (le-leb (end - f) cap k)
+
+oldest-more : (cap end f : ℕ) (r : Record) (rs : List Record) → cap < end - f → oldest cap end f (r ∷ rs) ≡ oldest cap end (r .fields .usn) rs
+unfolding oldest
+oldest-more cap end f r rs k = rw (lt-leb (end - f) cap k)
+
+abbrev pub snoc : Shed → Record → Shed
+snoc t r = record { gone = t .gone; from = t .from; rest = t .rest ++ (r ∷ []) }
 
 pub record Cut (cap end f : ℕ) (l : List Record) (e : ℕ) (t : Shed) : Type 0 where
   pub parts : l ≡ t .gone ++ t .rest
   pub gone : Chain f (t .gone) (t .from)
   pub rest : Chain (t .from) (t .rest) e
   pub span : end - t .from ≤ cap
+  -- the journal drops the same
+  pub same : oldest cap end f l ≡ t .from
+  -- and so it does with one more record, which stays
+  pub more : (r : Record) → shed cap end f (l ++ (r ∷ [])) ≡ snoc t r
+
+cut-none : (cap end f : ℕ) (l : List Record) (e : ℕ) → Chain f l e → end - f ≤ cap → Cut cap end f l e (shed cap end f l)
+cut-none cap end f l e h k =
+    subst (Cut cap end f l e) (sym (shed-stop cap end f l k))
+    (record { parts = refl; gone = refl; rest = h; span = k; same = oldest-stop cap end f l k; more = λ r. shed-stop cap end f (l ++ (r ∷ [])) k })
 
 pub cut : (cap end f : ℕ) (l : List Record) (e : ℕ) → Chain f l e → end - e ≤ cap → Cut cap end f l e (shed cap end f l)
-unfolding shed
-cut cap end f [] e h k = record { parts = refl; gone = refl; rest = h; span = omega (arith, h) }
-cut cap end f (r ∷ rs) e h k = go (ltb cap (end - f)) refl (cut cap end (r .fields .usn) rs e (h .1) k)
+cut cap end f [] e h k = cut-none cap end f [] e h (omega (arith, h))
+cut cap end f (r ∷ rs) e h k = go (leb (end - f) cap) refl (cut cap end (r .fields .usn) rs e (h .1) k)
   where
-    go : (b : Bool) → ltb cap (end - f) ≡ b → Cut cap end (r .fields .usn) rs e (shed cap end (r .fields .usn) rs)
-        → Cut cap end f (r ∷ rs) e (cond b (dropping r (shed cap end (r .fields .usn) rs)) (record { gone = []; from = f; rest = r ∷ rs }))
-    go true q ih = record { parts = ap (λ (x : List Record). r ∷ x) (ih .parts); gone = (h .0, ih .gone); rest = ih .rest; span = ih .span }
-    go false q ih = record { parts = refl; gone = refl; rest = h; span = ltb-false _ _ q }
-
-abbrev pub snoc : Shed → Record → Shed
-snoc t r = record { gone = t .gone; from = t .from; rest = t .rest ++ (r ∷ []) }
-
--- the last record stays, if it fits by itself
-pub shed-snoc : (cap end f : ℕ) (l : List Record) (e : ℕ) (r : Record) → Chain f l e → end - e ≤ cap
-    → shed cap end f (l ++ (r ∷ [])) ≡ snoc (shed cap end f l) r
-unfolding shed
-shed-snoc cap end f [] e r h k = rw (le-ltb cap (end - f) (omega (arith, h)))
-shed-snoc cap end f (x ∷ xs) e r h k = go (ltb cap (end - f)) (shed-snoc cap end (x .fields .usn) xs e r (h .1) k)
-  where
-    go : (b : Bool) → shed cap end (x .fields .usn) (xs ++ (r ∷ [])) ≡ snoc (shed cap end (x .fields .usn) xs) r
-        → cond b (dropping x (shed cap end (x .fields .usn) (xs ++ (r ∷ [])))) (record { gone = []; from = f; rest = x ∷ (xs ++ (r ∷ [])) })
-        ≡ snoc (cond b (dropping x (shed cap end (x .fields .usn) xs)) (record { gone = []; from = f; rest = x ∷ xs })) r
-    go true ih = ap (dropping x) ih
-    go false ih = refl
+    go : (b : Bool) → leb (end - f) cap ≡ b → Cut cap end (r .fields .usn) rs e (shed cap end (r .fields .usn) rs) → Cut cap end f (r ∷ rs) e (shed cap end f (r ∷ rs))
+    go true q ih = cut-none cap end f (r ∷ rs) e h (leb-true _ _ q)
+    go false q ih =
+        let k : cap < end - f = leb-false _ _ q in
+        subst (Cut cap end f (r ∷ rs) e) (sym (shed-more cap end f r rs k))
+        (record {
+          parts = ap (λ (x : List Record). r ∷ x) (ih .parts);
+          gone = (h .0, ih .gone);
+          rest = ih .rest;
+          span = ih .span;
+          same = oldest-more cap end f r rs k ∙ ih .same;
+          more = λ x. shed-more cap end f r (rs ++ (x ∷ [])) k ∙ ap (dropping r) (ih .more x);
+        })
 
 -- ---- a record written
 
@@ -118,7 +132,7 @@ module _ (v : Volume) (ring : List ℕ) (gone rest : List Record) (from : ℕ) (
   high : from ≤ v .last
   high = chain-le from rest (v .last) b
 
-  pub length-posted : length (placed ring at (bytesOf r)) ≡ length ring
+  length-posted : length (placed ring at (bytesOf r)) ≡ length ring
   length-posted = length-placed ring at (bytesOf r) (omega (arith, at-lt)) (omega (arith, new-bytes, high))
 
   -- the kept bytes of before, without those that are dropped
@@ -127,9 +141,9 @@ module _ (v : Volume) (ring : List ℕ) (gone rest : List Record) (from : ℕ) (
       ap (drop (from - v .first)) (joined-append gone rest)
       ∙ drop-at (joined gone) (joined rest) (from - v .first) (omega (arith, chain-length (v .first) gone from a))
 
-  pub posted-bytes : keptBytes (atPositions v from (v .last + lengthOf r)) (placed ring at (bytesOf r)) ≡ joined (rest ++ (r ∷ []))
+  kept-posted : keptBytes (atPositions v from (v .last + lengthOf r)) (placed ring at (bytesOf r)) ≡ joined (rest ++ (r ∷ []))
   unfolding keptBytes
-  posted-bytes =
+  kept-posted =
       let d : ℕ = v .last - v .first in
       let g : ℕ = from - v .first in
       let n : v .last + lengthOf r - from ≡ d - g + length (bytesOf r) = omega (arith, new-bytes, low, high) in
@@ -142,3 +156,7 @@ module _ (v : Volume) (ring : List ℕ) (gone rest : List Record) (from : ℕ) (
       ∙ ap (λ (z : List ℕ). drop g z ++ bytesOf r) kept
       ∙ ap₂ _++_ rest-bytes (sym (joined-one r))
       ∙ sym (joined-append rest (r ∷ []))
+
+  pub posted-bytes : (length (placed ring at (bytesOf r)) ≡ length ring)
+      × (keptBytes (atPositions v from (v .last + lengthOf r)) (placed ring at (bytesOf r)) ≡ joined (rest ++ (r ∷ [])))
+  posted-bytes = (length-posted, kept-posted)

@@ -10,7 +10,7 @@ use native.Mathlib.Omega.{arith}
 use lib.Dec.{ltb, eqb}
 use lib.ListN.{length, drop, length-append}
 use lib.Seq.{take-at, drop-at}
-use borrow.Author.Tests.{ltb-true, ltb-false, eqb-true, lt-ltb, le-ltb, lt-leb, ne-eqb}
+use borrow.Author.Tests.{ltb-true, ltb-false, lt-ltb, le-ltb, lt-leb, ne-eqb}
 use Rattle.le.specs.Numbers.{le, numberAt}
 use Rattle.le.proofs.Numbers.{unle-le, length-le}
 use Rattle.le.proofs.Runs.{and-left, and-right}
@@ -32,33 +32,29 @@ use Rattle.journal_read.specs.Input.{filterOf, versionOf, argumentCheck}
 use Rattle.journal_page.specs.Select.{selects}
 use Rattle.journal_page.specs.Page.{Page, pageOf, empty, pageBytes, pageReply}
 use Rattle.journal_read.specs.Read.{isDeleted, origin, deletedCheck, answerFrom, readAnswer, readCheck, readReply}
-use Rattle.history.specs.Calls.{Read, read, Journal, replyTo, outcome, next, Typed, AllTyped}
+use Rattle.history.specs.Calls.{Read, read, Journal, replyTo, statusOf, next, Typed, AllTyped}
 use Rattle.history.specs.Log.{History, posted, note, notes}
-use Rattle.history.specs.Reading.{Sheet, Reader, advanced, told, Turn, mine, other, callOf, hears, follow, Carries, Own, Chosen, Hold}
+use Rattle.history.specs.Reading.{Received, Reader, advanced, told, Turn, mine, other, callOf, hears, follow, Carries, Own, Chosen, Hold}
 use Rattle.history.specs.Demand.{filter, between, CreatesNone, NoCreation, DroppedAbove, isNone, wellFormed}
 use Rattle.history.proofs.Links.{Chain, chain-le, chain-append}
-use Rattle.history.proofs.Sim.{Live, usable, Sim, Grow}
+use Rattle.history.proofs.Effects.{clash, usable}
+use Rattle.history.proofs.Sim.{Sim, Grow}
 use Rattle.history.proofs.Chains.{filter-append, between-append, between-high, between-all, between-top, after-drop, after-boundary, after-append, Boundary, boundary, mem-range, some-above, Split, split, page-alike}
-use Rattle.history.proofs.Simulate.{kept-live, sound-live, sim-step}
-
-pub clash : {A : Type 0} → _≡_ {A = ℕ} 0 1 → A
-clash z = absurd (omega arith)
+use Rattle.history.proofs.Simulate.{kept-live, sound-live, active-none, sim-step}
 
 pub whole : (j : Journal) (h : History) → Sim j h → Chain (h .base) (posted h) (h .end)
-whole j h m = chain-append (h .base) (h .dropped) (h .first) (h .left) (h .end) (m .gone) (m .here)
+whole j h m = chain-append (h .base) (h .dropped) (h .first) (h .left) (h .end) (m .shape .gone) (m .shape .here)
 
--- ---- sheets
+-- ---- replies
 
--- one more sheet holds the records that are its bytes
-pub hold-more : (sheets : List Sheet) (rs more : List Record) (s : Sheet) → Hold sheets rs → s .bytes ≡ joined (map (inVersion (s .version)) more)
-    → Hold (sheets ++ (s ∷ [])) (rs ++ more)
-hold-more [] rs more s k b = (more, [], ap (λ (x : List Record). x ++ more) k ∙ sym (append-nil more), b, refl)
-hold-more (x ∷ sheets) rs more s k b = (
+pub hold-append : (ss ts : List Received) (rs more : List Record) → Hold ss rs → Hold ts more → Hold (ss ++ ts) (rs ++ more)
+hold-append [] ts rs more k t = subst (λ (x : List Record). Hold ts (x ++ more)) (sym k) t
+hold-append (s ∷ ss) ts rs more k t = (
   k .0,
   k .1 ++ more,
   ap (λ (y : List Record). y ++ more) (k .2) ∙ append-assoc (k .0) (k .1) more,
   k .3,
-  hold-more sheets (k .1) more s (k .4) b,
+  hold-append ss ts (k .1) more (k .4) t,
 )
 
 -- ---- a reader that stands rightly in the history
@@ -100,9 +96,13 @@ guard-inv : (o : Option Status) (k : Reply) (x : Status) (bytes : List ℕ) → 
 guard-inv none k x bytes h = (refl, h)
 guard-inv (some y) k x bytes h = clash cc
 
-pub none-is : (o : Option Status) → isNone o ≡ true → o ≡ none
+none-is : (o : Option Status) → isNone o ≡ true → o ≡ none
 none-is none h = refl
 none-is (some x) h = clash cc
+
+pub formed : (h : History) (a : Read) → wellFormed h a ≡ true → (h .live ≡ true) × (argumentCheck (h .id) (a .input) (a .room) ≡ none)
+unfolding wellFormed
+formed h a w = (and-left (h .live) _ w, none-is (argumentCheck (h .id) (a .input) (a .room)) (and-right (h .live) _ w))
 
 sound-buffer : (v : Volume) (ring : List ℕ) → sound v ring ≡ true → eqb (length ring) (v .capacity) ≡ true
 unfolding sound goodMarks
@@ -110,15 +110,10 @@ sound-buffer v ring h =
     and-left (eqb (length ring) (v .capacity)) _
     (and-right (goodCapacity (v .capacity)) _ (and-left (goodMarks v (length ring)) (inChain (v .first) (records 0 (keptBytes v ring))) h))
 
-active-only : (v : Volume) → isActive v ≡ true → isDeleting v ≡ false
-active-only v e = let s : v .state ≡ 1 = eqb-true (v .state) 1 e in ne-eqb (v .state) 2 (λ q. omega arith)
-
 check-none : (v : Volume) (input : List ℕ) (room : ℕ) → supported (v .journal) ≡ true → isActive v ≡ true → argumentCheck (v .id) input room ≡ none
     → readCheck v input room ≡ none
 check-none v input room s a c =
-    ap (λ (b : Bool). else (unless b InvalidDeviceRequest) (else (activeCheck v) (argumentCheck (v .id) input room))) s
-    ∙ ap₂ (λ (x y : Bool). else (else (unless (not x) JournalDeleteInProgress) (unless y JournalNotActive)) (argumentCheck (v .id) input room)) (active-only v a) a
-    ∙ c
+    ap₂ (λ (b : Bool) (o : Option Status). else (unless b InvalidDeviceRequest) (else o (argumentCheck (v .id) input room))) s (active-none v a) ∙ c
 
 -- what a reply tells: the checks passed
 module _ (v : Volume) (ring input : List ℕ) (room : ℕ) (x : Status) (bytes : List ℕ) where
@@ -179,7 +174,7 @@ module _ (j : Journal) (h : History) (m : Sim j h) (d : Reader) (t : Stand h d) 
   deleted-is : isDeleted p (h .first) ≡ ltb p (h .first)
   unfolding isDeleted
   deleted-is =
-      ap₂ (λ (x y : Bool). not x && (y || ltb p (h .first))) not-zero (lt-leb (2 ^ 63) p (omega (arith, p-end, m .low)))
+      ap₂ (λ (x y : Bool). not x && (y || ltb p (h .first))) not-zero (lt-leb (2 ^ 63) p (omega (arith, p-end, m .shape .low)))
 
   origin-is : origin p (h .first) ≡ p
   unfolding origin
@@ -205,7 +200,7 @@ module _ (j : Journal) (h : History) (m : Sim j h) (d : Reader) (t : Stand h d) 
       answered
       ∙ ap (λ (x : Bool). by-marks x (h .first) p) (le-ltb p (h .first) k)
       ∙ ap (answerFrom (versionOf (a .input)) (filterOf (a .input)) (a .room - 8) p)
-      (sym (after-drop (h .base) (h .dropped) (h .first) p (h .left) (m .gone) k) ∙ t .boundary)
+      (sym (after-drop (h .base) (h .dropped) (h .first) p (h .left) (m .shape .gone) k) ∙ t .boundary)
       ∙ ap (pageReply (versionOf (a .input))) (page-alike (versionOf (a .input)) (filterOf (a .input)) (d .filter) (c .1) (a .room - 8) p (t .rest))
 
 -- ---- the clause on deleted entries
@@ -220,31 +215,25 @@ page-told v page h = go (page .cut && empty (page .given)) (ap number h)
     go false k = omega arith
 
 pub deleted-iff : (j : Journal) (h : History) (d : Reader) → Sim j h → Stand h d → (a : Read) → Carries d a → wellFormed h a ≡ true
-    → (outcome j (read a) .status ≡ JournalEntryDeleted) ↔ DroppedAbove h (d .position)
-unfolding wellFormed
+    → (statusOf j (read a) ≡ JournalEntryDeleted) ↔ DroppedAbove h (d .position)
 deleted-iff j h d m t a c w = (there, back)
   where
-    v : h .live ≡ true
-    v = and-left (h .live) (isNone (argumentCheck (h .id) (a .input) (a .room))) w
+    g : (h .live ≡ true) × (argumentCheck (h .id) (a .input) (a .room) ≡ none)
+    g = formed h a w
 
-    ok : argumentCheck (h .id) (a .input) (a .room) ≡ none
-    ok = none-is (argumentCheck (h .id) (a .input) (a .room)) (and-right (h .live) (isNone (argumentCheck (h .id) (a .input) (a .room))) w)
-
-    status : Reply → Status
-    status r = answer r .status
-
-    there : outcome j (read a) .status ≡ JournalEntryDeleted → DroppedAbove h (d .position)
+    there : statusOf j (read a) ≡ JournalEntryDeleted → DroppedAbove h (d .position)
     there k = by (ltb (d .position) (h .first)) refl
       where
         by : (x : Bool) → ltb (d .position) (h .first) ≡ x → DroppedAbove h (d .position)
         by true q =
-            let s = some-above (h .base) (h .dropped) (h .first) (d .position) (m .gone) (base-low j h m d t a c v ok) (ltb-true _ _ q) in
+            let s = some-above (h .base) (h .dropped) (h .first) (d .position) (m .shape .gone) (base-low j h m d t a c (g .0) (g .1)) (ltb-true _ _ q) in
             (s .0, s .1, omega (arith, s .2))
-        by false q = absurd (page-told _ _ (ap status (sym (told-reply j h m d t a c v ok (ltb-false _ _ q))) ∙ k))
+        by false q = absurd (page-told _ _ (ap (λ (r : Reply). answer r .status) (sym (told-reply j h m d t a c (g .0) (g .1) (ltb-false _ _ q))) ∙ k))
 
-    back : DroppedAbove h (d .position) → outcome j (read a) .status ≡ JournalEntryDeleted
+    back : DroppedAbove h (d .position) → statusOf j (read a) ≡ JournalEntryDeleted
     back r =
-        ap status (told-deleted j h m d t a c v ok (omega (arith, mem-range (h .base) (h .dropped) (h .first) (r .0) (m .gone) (r .1) .1, r .2)))
+        ap (λ (r : Reply). answer r .status)
+        (told-deleted j h m d t a c (g .0) (g .1) (omega (arith, mem-range (h .base) (h .dropped) (h .first) (r .0) (m .shape .gone) (r .1) .1, r .2)))
 
 -- ---- a reply
 
@@ -308,10 +297,10 @@ module _ (j : Journal) (h : History) (m : Sim j h) (d : Reader) (t : Stand h d) 
     at =
         sym
         (ap positionOf (r .laid)
-        ∙ position-back (c .position) (pageBytes w c) (omega (arith, chain-le (c .position) (sp .remain) (h .end) (sp .beyond), m .low)))
+        ∙ position-back (c .position) (pageBytes w c) (omega (arith, chain-le (c .position) (sp .remain) (h .end) (sp .beyond), m .shape .low)))
 
-    sheet : drop 8 bytes ≡ joined (map (inVersion w) (sel (sp .taken)))
-    sheet =
+    behind : drop 8 bytes ≡ joined (map (inVersion w) (sel (sp .taken)))
+    behind =
         ap (drop 8) (r .laid)
         ∙ drop-at (le 8 (c .position)) (pageBytes w c) 8 (length-le 8 (c .position))
         ∙ ap (λ (rs : List Record). joined (map (inVersion w) rs)) (sp .given)
@@ -352,7 +341,8 @@ module _ (j : Journal) (h : History) (m : Sim j h) (d : Reader) (t : Stand h d) 
     step-handed : Hold (advanced a bytes d .handed) (sel (β q (posted h)))
     step-handed =
         subst (Hold (advanced a bytes d .handed)) grown
-        (hold-more (d .handed) (sel (β (d .position) (posted h))) (sel (sp .taken)) (record { version = w; bytes = drop 8 bytes }) (t .handed) sheet)
+        (hold-append (d .handed) (record { version = w; bytes = bytes } ∷ []) (sel (β (d .position) (posted h))) (sel (sp .taken)) (t .handed)
+        (sel (sp .taken), [], sym (append-nil (sel (sp .taken))), behind, refl))
 
     step-boundary : recordsAfter (h .base) q (posted h) ≡ some (sp .remain)
     step-boundary =
@@ -397,27 +387,20 @@ own-reply j h m d t a c x bytes k = by (ltb (d .position) (h .first)) refl
         (reply-inv _ _ x bytes z .success, advance j h m d t a (a .room - 8) x bytes z)
 
 -- only SUCCESS has the number 0
-success-is : (x : Status) → eqb (number x) 0 ≡ true → x ≡ Success
-success-is Success h = refl
-success-is BufferOverflow h = clash cc
-success-is InvalidParameter h = clash cc
-success-is InvalidDeviceRequest h = clash cc
-success-is BufferTooSmall h = clash cc
-success-is DiskFull h = clash cc
-success-is FileCorruptError h = clash cc
-success-is NotAReparsePoint h = clash cc
-success-is VolumeNotUpgraded h = clash cc
-success-is JournalDeleteInProgress h = clash cc
-success-is JournalNotActive h = clash cc
-success-is JournalEntryDeleted h = clash cc
-
 pub refusal : (a : Read) (d : Reader) (r : Reply) → (answer r .status ≡ Success → ⊥) → told a r d ≡ d
 refusal a d (refuse x) n = refl
-refusal a d (give x bytes) n = go (eqb (number x) 0) refl
-  where
-    go : (b : Bool) → eqb (number x) 0 ≡ b → cond b (advanced a bytes d) d ≡ d
-    go true e = absurd (n (success-is x e))
-    go false e = refl
+refusal a d (give Success bytes) n = absurd (n refl)
+refusal a d (give BufferOverflow bytes) n = refl
+refusal a d (give InvalidParameter bytes) n = refl
+refusal a d (give InvalidDeviceRequest bytes) n = refl
+refusal a d (give BufferTooSmall bytes) n = refl
+refusal a d (give DiskFull bytes) n = refl
+refusal a d (give FileCorruptError bytes) n = refl
+refusal a d (give NotAReparsePoint bytes) n = refl
+refusal a d (give VolumeNotUpgraded bytes) n = refl
+refusal a d (give JournalDeleteInProgress bytes) n = refl
+refusal a d (give JournalNotActive bytes) n = refl
+refusal a d (give JournalEntryDeleted bytes) n = refl
 
 -- one call of the list
 pub stand-step : (j : Journal) (h : History) (d : Reader) → Sim j h → Stand h d → (u : Turn) → Typed (callOf u) → CreatesNone j (callOf u) → Own d u

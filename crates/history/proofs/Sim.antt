@@ -1,10 +1,9 @@
 -- How a journal and its history go together.
 -- Assumes nothing.
 use mathlib.Core.Path.{_≡_}
-use mathlib.Core.Bool.{Bool, true, false, _&&_}
+use mathlib.Core.Bool.{true, false}
 use mathlib.Core.List.{List, [], _++_}
 use Prim.Native.Nat.{ℕ, _-_, _%_, _^_, _≤_, _<_}
-use lib.Dec.{eqb}
 use lib.ListN.{length}
 use Rattle.volume.specs.State.{supported, isActive, goodCapacity}
 use Rattle.usn_record.specs.Layout.{Record}
@@ -13,6 +12,7 @@ use Rattle.journal.specs.Kept.{keptBytes}
 use Rattle.history.specs.Calls.{Journal}
 use Rattle.history.specs.Log.{History, posted}
 use Rattle.history.proofs.Links.{Chain}
+use Rattle.history.proofs.Effects.{usable}
 
 -- while the history is live: the volume record agrees with it, and the ring's kept bytes are the records left
 pub record Live (j : Journal) (h : History) : Type 0 where
@@ -25,18 +25,18 @@ pub record Live (j : Journal) (h : History) : Type 0 where
   pub last : j .volume .last ≡ h .end
   pub bytes : keptBytes (j .volume) (j .ring) ≡ joined (h .left)
 
--- can anything be read or posted?
-abbrev pub usable : Journal → Bool
-usable j = supported (j .volume .journal) && (isActive (j .volume) && eqb (length (j .ring)) (j .volume .capacity))
+-- a history's records are chains that fit the capacity, whether it is live or not
+pub record Shape (base first end size : ℕ) (dropped left : List Record) : Type 0 where
+  pub gone : Chain base dropped first
+  pub here : Chain first left end
+  pub low : end < 2 ^ 63
+  pub firstEight : first % 8 ≡ 0
+  pub endEight : end % 8 ≡ 0
+  pub capacity : goodCapacity size ≡ true
+  pub span : end - first ≤ size
 
 pub record Sim (j : Journal) (h : History) : Type 0 where
-  pub gone : Chain (h .base) (h .dropped) (h .first)
-  pub here : Chain (h .first) (h .left) (h .end)
-  pub low : h .end < 2 ^ 63
-  pub firstEight : h .first % 8 ≡ 0
-  pub endEight : h .end % 8 ≡ 0
-  pub capacity : goodCapacity (h .capacity) ≡ true
-  pub span : h .end - h .first ≤ h .capacity
+  pub shape : Shape (h .base) (h .first) (h .end) (h .capacity) (h .dropped) (h .left)
   pub live : h .live ≡ true → Live j h
   pub dead : h .live ≡ false → usable j ≡ false
 

@@ -1,6 +1,7 @@
 -- A journal and its history go together through every call.
 -- Assumes nothing.
 use mathlib.Core.Path.{_≡_, refl, sym, ap, ap₂, _∙_, subst, subst₂}
+use mathlib.Core.Logic.{inl, inr}
 use mathlib.Core.Bool.{Bool, true, false, not, cond, and-false, _&&_, _||_}
 use mathlib.Core.Option.{Option, none, some}
 use mathlib.Core.List.{List, [], _∷_, _++_, append-assoc, append-nil, nil≢cons}
@@ -15,11 +16,11 @@ use Rattle.status.specs.declared.Status.the-variants.{Success, InvalidParameter
 use Rattle.status.specs.Check.{unless, else}
 use Rattle.ring.specs.Ring.{rotated, placed}
 use Rattle.volume.specs.declared.Volume.{Volume}
-use Rattle.volume.specs.State.{supported, isActive, isDeleting, goodCapacity, goodPosition}
-use Rattle.volume.specs.Calls.{performed, inState, atPositions, createCheck, created, deleteCheck, finishCheck}
-use Rattle.volume.proofs.Marks.{capacity-facts, position-facts, facts-position}
+use Rattle.volume.specs.State.{supported, isActive, activeCheck, goodCapacity, goodPosition}
+use Rattle.volume.specs.Calls.{performed, inState, atPositions, deleteCheck}
+use Rattle.volume.proofs.Marks.{capacity-facts, position-facts}
 use Rattle.usn_record.specs.declared.Version.the-variants.{V3}
-use Rattle.usn_record.specs.Layout.{recordLength, shown, goodName, Record, bytesOf, lengthOf}
+use Rattle.usn_record.specs.Layout.{recordLength, shown, goodName, Record, bytesOf}
 use Rattle.usn_record.proofs.Name.{short}
 use Rattle.record_reader.proofs.Judge.{shown-same, shown-lt}
 use Rattle.records.specs.Records.{whole, recordList, records, joined}
@@ -31,24 +32,19 @@ use Rattle.journal_post.specs.declared.Change.{Change}
 use Rattle.journal_post.specs.declared.Verdict.{Verdict}
 use Rattle.journal_post.specs.declared.Verdict.the-variants.{Skip, Reject, Accept}
 use Rattle.journal_post.specs.Post.{skipped, postedName, endOf, postCheck, checked, verdict, leaves, recordOf, postedVolume, postedRing}
-use Rattle.history.specs.Calls.{Call, create, post, read, delete, finish, Journal, outcome, next, runs, Widths, Typed, AllTyped}
-use Rattle.history.specs.Log.{History, posted, opened, endWith, isPosted, Shed, shed, shedTo, added, closed, notePost, noteDelete, note, notes}
-use Rattle.history.specs.Demand.{CreatesNone, NoCreation}
+use Rattle.history.specs.Calls.{Posting, Call, Journal, Called, called, statusOf, next, runs, Effect, opens, posts, closes, nothing, effect, Widths, AllWidths, TypedEffect, Typed, AllTyped}
+use Rattle.history.specs.Log.{History, posted, opened, endWith, isPosted, Shed, shed, shedTo, added, closed, notePost, notePosts, noteDelete, noteEffect, note, notes, openedBy, opening}
+use Rattle.history.specs.Demand.{isOpening, CreatesNone, NoCreation}
 use Rattle.history.proofs.Links.{Link, Chain, chain-le, chain-append, chain-eight}
-use Rattle.history.proofs.Sim.{Live, usable, Sim, Grow}
-use Rattle.history.proofs.Posting.{chain-sound, chain-chained, Cut, cut, snoc, shed-snoc, shed-oldest, length-posted, posted-bytes}
-
-and-true : (a b : Bool) → a ≡ true → b ≡ true → a && b ≡ true
-and-true a b p q = rw (p, q)
-
-true-false : {A : Type 0} → true ≡ false → A
-true-false q = absurd (let z : _≡_ {A = ℕ} 0 1 = cc in omega arith)
+use Rattle.history.proofs.Effects.{clash, and-true, usable, with, emptied, afterPost, afterPosts, afterDelete, Does, either, unusable, does}
+use Rattle.history.proofs.Sim.{Live, Sim, Grow}
+use Rattle.history.proofs.Posting.{chain-sound, chain-chained, Cut, cut, snoc, posted-bytes}
 
 -- ---- a live journal keeps the records left
 
 module _ (j : Journal) (h : History) (m : Sim j h) (l : Live j h) where
   records-live : records 0 (keptBytes (j .volume) (j .ring)) ≡ whole (h .left)
-  records-live = ap (records 0) (l .bytes) ∙ joined-read 0 (h .left) (chain-sound (h .first) (h .left) (h .end) (m .here))
+  records-live = ap (records 0) (l .bytes) ∙ joined-read 0 (h .left) (chain-sound (h .first) (h .left) (h .end) (m .shape .here))
 
   pub kept-live : kept (j .volume) (j .ring) ≡ h .left
   unfolding kept
@@ -56,67 +52,50 @@ module _ (j : Journal) (h : History) (m : Sim j h) (l : Live j h) where
 
   marks-live : goodMarks (j .volume) (length (j .ring)) ≡ true
   marks-live =
-      let c = capacity-facts (h .capacity) (m .capacity) in
-      let le : h .first ≤ h .end = chain-le (h .first) (h .left) (h .end) (m .here) in
+      let c = capacity-facts (h .capacity) (m .shape .capacity) in
+      let le : h .first ≤ h .end = chain-le (h .first) (h .left) (h .end) (m .shape .here) in
       let n : length (j .ring) ≡ h .capacity = l .buffer ∙ l .capacity in
       facts-marks (j .volume) (length (j .ring)) (l .buffer) (omega (arith, n, c .0)) (omega (arith, n, c .1)) (omega (arith, n, c .2))
-      (omega (arith, l .first, m .firstEight)) (omega (arith, l .last, m .endEight)) (omega (arith, l .last, m .low)) (omega (arith, l .first, l .last))
-      (omega (arith, l .first, l .last, n, m .span))
+      (omega (arith, l .first, m .shape .firstEight)) (omega (arith, l .last, m .shape .endEight)) (omega (arith, l .last, m .shape .low)) (omega (arith, l .first, l .last))
+      (omega (arith, l .first, l .last, n, m .shape .span))
 
   pub sound-live : sound (j .volume) (j .ring) ≡ true
   sound-live =
       facts-sound (j .volume) (j .ring) marks-live
       (ap (inChain (j .volume .first)) records-live
       ∙ ap (λ (x : ℕ). chained x (h .left)) (l .first)
-      ∙ chain-chained (h .first) (h .left) (h .end) (m .here))
+      ∙ chain-chained (h .first) (h .left) (h .end) (m .shape .here))
 
 -- a history that is not live goes with any journal that can't be used
 dead-sim : (j k : Journal) (h : History) → Sim j h → h .live ≡ false → usable k ≡ false → Sim k h
-dead-sim j k h m d u =
-    record {
-      gone = m .gone;
-      here = m .here;
-      low = m .low;
-      firstEight = m .firstEight;
-      endEight = m .endEight;
-      capacity = m .capacity;
-      span = m .span;
-      live = λ q. true-false (sym q ∙ d);
-      dead = λ q. u;
-    }
+dead-sim j k h m d u = record { shape = m .shape; live = λ q. clash cc; dead = λ q. u }
 
 closed-sim : (j k : Journal) (h : History) → Sim j h → usable k ≡ false → Sim k (closed h)
-closed-sim j k h m u =
-    record {
-      gone = m .gone;
-      here = m .here;
-      low = m .low;
-      firstEight = m .firstEight;
-      endEight = m .endEight;
-      capacity = m .capacity;
-      span = m .span;
-      live = λ q. true-false (sym q);
-      dead = λ q. u;
-    }
+closed-sim j k h m u = record { shape = m .shape; live = λ q. clash cc; dead = λ q. u }
 
 -- ---- posting
 
 -- the facts of a post that is posted
-pub record Posts (h : History) (c : Change) (name : List ℕ) : Type 0 where
+pub record Accepted (h : History) (c : Change) (name : List ℕ) : Type 0 where
   pub live : h .live ≡ true
   pub reason : not (eqb (c .reason) 0) ≡ true
   pub good : goodName name ≡ true
   pub long : leb 2 (length name) ≡ true
   pub low : endWith h name < 2 ^ 63
 
-is-posted : (h : History) (c : Change) (name : List ℕ) → isPosted h c name ≡ true → Posts h c name
-unfolding isPosted postedName
-is-posted h c name q =
-    let q1 = and-right (h .live) _ q in
+-- a live history takes a post by its Reason, its name and its end
+posted-live : (h : History) (c : Change) (name : List ℕ) → h .live ≡ true → isPosted h c name ≡ not (eqb (c .reason) 0) && (postedName name && ltb (endWith h name) (2 ^ 63))
+unfolding isPosted
+posted-live h c name v = rw v
+
+accepted : (h : History) (c : Change) (name : List ℕ) → h .live ≡ true → isPosted h c name ≡ true → Accepted h c name
+unfolding postedName
+accepted h c name v q =
+    let q1 = sym (posted-live h c name v) ∙ q in
     let q2 = and-right (not (eqb (c .reason) 0)) _ q1 in
     let q3 = and-left (goodName name && leb 2 (length name)) _ q2 in
     record {
-      live = and-left (h .live) _ q;
+      live = v;
       reason = and-left (not (eqb (c .reason) 0)) _ q1;
       good = and-left (goodName name) _ q3;
       long = and-right (goodName name) _ q3;
@@ -131,7 +110,7 @@ shown-not (suc a) e = omega (arith, e, shown-same (suc a) (λ z. omega arith))
 abbrev written : Journal → Change → List ℕ → Journal
 written j c name = record { volume = postedVolume (j .volume) (j .ring) name; ring = postedRing (j .volume) (j .ring) c name }
 
-module _ (j : Journal) (h : History) (m : Sim j h) (l : Live j h) (c : Change) (name : List ℕ) (w : Widths c) (p : Posts h c name) where
+module _ (j : Journal) (h : History) (m : Sim j h) (l : Live j h) (c : Change) (name : List ℕ) (w : Widths c) (p : Accepted h c name) where
   abbrev end : ℕ
   end = endWith h name
 
@@ -159,28 +138,14 @@ module _ (j : Journal) (h : History) (m : Sim j h) (l : Live j h) (c : Change) (
         };
       }
 
-  fits : recordLength V3 (length name) ≤ h .capacity
-  fits = omega (arith, short name (p .good), capacity-facts (h .capacity) (m .capacity))
-
   room : end - h .end ≤ h .capacity
-  room = omega (arith, fits)
+  room = omega (arith, short name (p .good), capacity-facts (h .capacity) (m .shape .capacity))
 
   abbrev t : Shed
   t = shed (h .capacity) end (h .first) (h .left)
 
-  abbrev all : Shed
-  all = shed (h .capacity) end (h .first) (h .left ++ (new ∷ []))
-
-  all-is : all ≡ snoc t new
-  all-is = shed-snoc (h .capacity) end (h .first) (h .left) (h .end) new (m .here) room
-
   old : Cut (h .capacity) end (h .first) (h .left) (h .end) t
-  old = cut (h .capacity) end (h .first) (h .left) (h .end) (m .here) room
-
-  pieces : Cut (h .capacity) end (h .first) (h .left ++ (new ∷ [])) end all
-  pieces =
-      cut (h .capacity) end (h .first) (h .left ++ (new ∷ [])) end
-      (chain-append (h .first) (h .left) (h .end) (new ∷ []) end (m .here) (new-link, refl)) (omega arith)
+  old = cut (h .capacity) end (h .first) (h .left) (h .end) (m .shape .here) room
 
   end-is : endOf (j .volume) name ≡ end
   end-is = ap (λ (x : ℕ). x + recordLength V3 (length name)) (l .last)
@@ -190,101 +155,77 @@ module _ (j : Journal) (h : History) (m : Sim j h) (l : Live j h) (c : Change) (
   from-is =
       ap₂ (λ (x : ℕ) (y : List Record). oldest x (endOf (j .volume) name) (j .volume .first) y) (l .capacity) (kept-live j h m l)
       ∙ ap₂ (λ (x y : ℕ). oldest (h .capacity) x y (h .left)) end-is (l .first)
-      ∙ sym (shed-oldest (h .capacity) end (h .first) (h .left))
+      ∙ old .same
 
-  volume-is : postedVolume (j .volume) (j .ring) name ≡ atPositions (j .volume) (t .from) end
-  unfolding postedVolume
-  volume-is = ap₂ (atPositions (j .volume)) from-is end-is
-
-  ring-is : postedRing (j .volume) (j .ring) c name ≡ placed (j .ring) (j .volume .last % length (j .ring)) (bytesOf new)
-  unfolding postedRing
-  ring-is = ap (λ (x : ℕ). placed (j .ring) (j .volume .last % length (j .ring)) (bytesOf (recordOf c name x))) end-is
-
+  -- journal and history after the post
   abbrev after : Journal
-  after = record { volume = atPositions (j .volume) (t .from) end; ring = placed (j .ring) (j .volume .last % length (j .ring)) (bytesOf new) }
+  after = with (atPositions (j .volume) (t .from) end) (placed (j .ring) (j .volume .last % length (j .ring)) (bytesOf new))
+
+  abbrev grown : History
+  grown = shedTo h end (snoc t new)
+
+  added-is : added h c name ≡ grown
+  unfolding added
+  added-is = ap (shedTo h end) (old .more new)
 
   written-is : written j c name ≡ after
-  written-is = ap₂ (λ (x : Volume) (y : List ℕ). record { volume = x; ring = y }) volume-is ring-is
+  unfolding postedVolume postedRing
+  written-is =
+      ap₂ with (ap₂ (atPositions (j .volume)) from-is end-is)
+      (ap (λ (x : ℕ). placed (j .ring) (j .volume .last % length (j .ring)) (bytesOf (recordOf c name x))) end-is)
 
-  from-same : t .from ≡ all .from
-  from-same = ap (λ (x : Shed). x .from) (sym all-is)
+  after-kept : (length (after .ring) ≡ length (j .ring)) × (keptBytes (after .volume) (after .ring) ≡ joined (grown .left))
+  after-kept =
+      let k =
+      posted-bytes (j .volume) (j .ring) (t .gone) (t .rest) (t .from) new
+      (omega (arith, l .buffer, l .capacity, capacity-facts (h .capacity) (m .shape .capacity)))
+      (subst (λ (x : ℕ). Chain x (t .gone) (t .from)) (sym (l .first)) (old .gone))
+      (subst (λ (x : ℕ). Chain (t .from) (t .rest) x) (sym (l .last)) (old .rest))
+      (l .bytes ∙ ap joined (old .parts))
+      (omega (arith, l .first, l .last, l .capacity, l .buffer, m .shape .span))
+      (omega (arith, l .last, l .capacity, l .buffer, old .span)) in
+      (k .0, ap (λ (x : ℕ). keptBytes (atPositions (j .volume) (t .from) x) (after .ring)) (sym end-is) ∙ k .1)
 
-  filled : 0 < length (j .ring)
-  filled = omega (arith, l .buffer, l .capacity, capacity-facts (h .capacity) (m .capacity))
-
-  gone-chain : Chain (j .volume .first) (t .gone) (t .from)
-  gone-chain = subst (λ (x : ℕ). Chain x (t .gone) (t .from)) (sym (l .first)) (old .gone)
-
-  rest-chain : Chain (t .from) (t .rest) (j .volume .last)
-  rest-chain = subst (λ (x : ℕ). Chain (t .from) (t .rest) x) (sym (l .last)) (old .rest)
-
-  kept-parts : keptBytes (j .volume) (j .ring) ≡ joined (t .gone ++ t .rest)
-  kept-parts = l .bytes ∙ ap joined (old .parts)
-
-  span-fits : j .volume .last - j .volume .first ≤ length (j .ring)
-  span-fits = omega (arith, l .first, l .last, l .capacity, l .buffer, m .span)
-
-  room-fits : j .volume .last + lengthOf new - t .from ≤ length (j .ring)
-  room-fits = omega (arith, l .last, l .capacity, l .buffer, old .span)
-
-  ring-size : length (after .ring) ≡ length (j .ring)
-  ring-size = length-posted (j .volume) (j .ring) (t .gone) (t .rest) (t .from) new filled gone-chain rest-chain kept-parts span-fits room-fits
-
-  after-bytes : keptBytes (after .volume) (after .ring) ≡ joined (all .rest)
-  after-bytes =
-      ap (λ (x : ℕ). keptBytes (atPositions (j .volume) (t .from) x) (after .ring)) (sym end-is)
-      ∙ posted-bytes (j .volume) (j .ring) (t .gone) (t .rest) (t .from) new filled gone-chain rest-chain kept-parts span-fits room-fits
-      ∙ ap (λ (x : Shed). joined (x .rest)) (sym all-is)
-
-  after-live : Live after (shedTo h end all)
-  after-live =
-      record {
-        supported = l .supported;
-        active = l .active;
-        buffer = ring-size ∙ l .buffer;
-        capacity = l .capacity;
-        id = l .id;
-        first = from-same;
-        last = refl;
-        bytes = after-bytes;
-      }
-
-  after-sim : Sim after (shedTo h end all)
+  after-sim : Sim after grown
   after-sim =
       record {
-        gone = chain-append (h .base) (h .dropped) (h .first) (all .gone) (all .from) (m .gone) (pieces .gone);
-        here = pieces .rest;
-        low = p .low;
-        firstEight = chain-eight (h .first) (all .gone) (all .from) (pieces .gone) (m .firstEight);
-        endEight = omega (arith, m .endEight);
-        capacity = m .capacity;
-        span = pieces .span;
-        live = λ q. after-live;
-        dead = λ q. true-false (sym (p .live) ∙ q);
+        shape = record {
+          gone = chain-append (h .base) (h .dropped) (h .first) (t .gone) (t .from) (m .shape .gone) (old .gone);
+          here = chain-append (t .from) (t .rest) (h .end) (new ∷ []) end (old .rest) (new-link, refl);
+          low = p .low;
+          firstEight = chain-eight (h .first) (t .gone) (t .from) (old .gone) (m .shape .firstEight);
+          endEight = omega (arith, m .shape .endEight);
+          capacity = m .shape .capacity;
+          span = old .span;
+        };
+        live = λ q. record {
+          supported = l .supported;
+          active = l .active;
+          buffer = after-kept .0 ∙ l .buffer;
+          capacity = l .capacity;
+          id = l .id;
+          first = refl;
+          last = refl;
+          bytes = after-kept .1;
+        };
+        dead = λ q. let l : h .live ≡ true = p .live in clash cc;
       }
 
-  added-sim : Sim (written j c name) (added h c name)
-  unfolding added
-  added-sim = subst (λ (x : Journal). Sim x (shedTo h end all)) (sym written-is) after-sim
-
-  -- the history's posted records after the post
-  added-posted : posted (added h c name) ≡ posted h ++ (new ∷ [])
-  unfolding added
-  added-posted =
-      append-assoc (h .dropped) (all .gone) (all .rest)
-      ∙ ap (λ (x : List Record). h .dropped ++ x) (sym (pieces .parts))
-      ∙ sym (append-assoc (h .dropped) (h .left) (new ∷ []))
-
-  added-grow : Grow h (added h c name)
-  unfolding added
-  added-grow =
+  after-grow : Grow h grown
+  after-grow =
       record {
         more = new ∷ [];
-        parts = added-posted;
+        parts =
+            append-assoc (h .dropped) (t .gone) (t .rest ++ (new ∷ []))
+            ∙ ap (λ (x : List Record). h .dropped ++ x) (sym (append-assoc (t .gone) (t .rest) (new ∷ [])) ∙ ap (λ (x : List Record). x ++ (new ∷ [])) (sym (old .parts)))
+            ∙ sym (append-assoc (h .dropped) (h .left) (new ∷ []));
         chain = (new-link, refl);
         base = refl;
         calm = λ z. absurd (nil≢cons (sym z));
       }
+
+  added-next : Sim (written j c name) (added h c name) × Grow h (added h c name)
+  added-next = subst₂ (λ (x : Journal) (y : History). Sim x y × Grow h y) (sym written-is) (sym added-is) (after-sim, after-grow)
 
 -- a journal that can't be used is left by a post
 dead-post : (j : Journal) (c : Change) (name : List ℕ) → usable j ≡ false → {A : Type 0} (x y : A) → leaves (verdict (j .volume) (j .ring) c name) x y ≡ x
@@ -298,7 +239,7 @@ dead-post j c name u {A} x y =
     go false a z k e i b o u = refl
     go true false z k e i b o u = refl
     go true true true k e i b o u = refl
-    go true true false k true i b o u = true-false u
+    go true true false k true i b o u = clash cc
     go true true false true false i b o u = refl
     go true true false false false i b o u = refl
 
@@ -316,22 +257,18 @@ module _ (j : Journal) (h : History) (m : Sim j h) (l : Live j h) (v : h .live �
       ∙ ap₂ (λ (x y : ℕ). else (unless (postedName name) InvalidParameter)
       (unless (leb (recordLength V3 (length name)) x && ltb (y + recordLength V3 (length name)) (2 ^ 63)) DiskFull)) (l .capacity) (l .last)
 
-  posted-live : isPosted h c name ≡ not (eqb (c .reason) 0) && (postedName name && ltb (endWith h name) (2 ^ 63))
-  unfolding isPosted
-  posted-live = rw v
-
   name-fits : postedName name ≡ true → leb (recordLength V3 (length name)) (h .capacity) ≡ true
   unfolding postedName
   name-fits q =
       le-leb (recordLength V3 (length name)) (h .capacity)
-      (omega (arith, short name (and-left (goodName name) _ q), capacity-facts (h .capacity) (m .capacity)))
+      (omega (arith, short name (and-left (goodName name) _ q), capacity-facts (h .capacity) (m .shape .capacity)))
 
   live-post : {A : Type 0} (x y : A) → leaves (verdict (j .volume) (j .ring) c name) x y ≡ cond (isPosted h c name) y x
   unfolding verdict
   live-post {A} x y =
       ap₂ (λ (z : Bool) (o : Option Status). leaves (cond z Skip (checked o)) x y) skipped-live check-live
       ∙ go (eqb (c .reason) 0) (postedName name) (ltb (endWith h name) (2 ^ 63)) refl
-      ∙ ap (λ (z : Bool). cond z y x) (sym posted-live)
+      ∙ ap (λ (z : Bool). cond z y x) (sym (posted-live h c name v))
     where
       go : (z n e : Bool) → postedName name ≡ n
           → leaves (cond z Skip (checked (else (unless n InvalidParameter) (unless (leb (recordLength V3 (length name)) (h .capacity) && e) DiskFull)))) x y
@@ -341,16 +278,14 @@ module _ (j : Journal) (h : History) (m : Sim j h) (l : Live j h) (v : h .live �
       go false true true q = ap (λ (z : Bool). leaves (checked (unless (z && true) DiskFull)) x y) (name-fits q)
       go false true false q = ap (λ (z : Bool). leaves (checked (unless z DiskFull)) x y) (and-false (leb (recordLength V3 (length name)) (h .capacity)))
 
--- ---- one call
+-- ---- one effect
 
+-- posting nothing, the history stays, or it is closed
 pub grow-same : (h : History) → Grow h h
 grow-same h = record { more = []; parts = sym (append-nil (posted h)); chain = refl; base = refl; calm = λ q. refl }
 
 grow-closed : (h : History) → Grow h (closed h)
 grow-closed h = record { more = []; parts = sym (append-nil (posted h)); chain = refl; base = refl; calm = λ q. refl }
-
-abbrev with : Volume → List ℕ → Journal
-with v ring = record { volume = v; ring = ring }
 
 -- what a verdict leaves of the whole journal
 leaves-both : (d : Verdict) (v w : Volume) (r s : List ℕ) → with (leaves d v w) (leaves d r s) ≡ leaves d (with v r) (with w s)
@@ -358,12 +293,20 @@ leaves-both Skip v w r s = refl
 leaves-both (Reject x) v w r s = refl
 leaves-both Accept v w r s = refl
 
-refused-volume : (o : Option Status) (v w : Volume) → (performed o v w .status ≡ Success → ⊥) → performed o v w .volume ≡ v
-refused-volume none v w h = absurd (h refl)
-refused-volume (some x) v w h = refl
+pub active-none : (v : Volume) → isActive v ≡ true → activeCheck v ≡ none
+active-none v e = ap (λ (x : ℕ). else (unless (not (eqb x 2)) JournalDeleteInProgress) (unless (eqb x 1) JournalNotActive)) (eqb-true (v .state) 1 e)
 
-not-in : (v : Volume) → isActive v ≡ true → isDeleting v ≡ false
-not-in v e = ap (λ (x : ℕ). eqb x 2) (eqb-true (v .state) 1 e)
+note-posted : (h : History) (p : Posting) (b : Bool) → isPosted h (p .change) (p .name) ≡ b → notePost h p ≡ cond b (added h (p .change) (p .name)) h
+unfolding notePost
+note-posted h p b q = rw q
+
+note-closes : (h : History) (id : ℕ) → eqb id (h .id) ≡ true → noteDelete h id ≡ closed h
+unfolding noteDelete
+note-closes h id q = rw q
+
+note-keeps : (h : History) (id : ℕ) → eqb id (h .id) ≡ false → noteDelete h id ≡ h
+unfolding noteDelete
+note-keeps h id q = rw q
 
 module _ (j : Journal) (h : History) (m : Sim j h) where
   abbrev Next : Journal → History → Type 0
@@ -372,144 +315,104 @@ module _ (j : Journal) (h : History) (m : Sim j h) where
   stay : Next j h
   stay = (m, grow-same h)
 
-  -- a journal that is deleting or idle can't be used
-  gone-deleting : usable (with (inState (j .volume) 2) (j .ring)) ≡ false
-  gone-deleting = and-false (supported (j .volume .journal))
+  -- a post
+  module _ (p : Posting) where
+    post-is : afterPost j p ≡ leaves (verdict (j .volume) (j .ring) (p .change) (p .name)) j (written j (p .change) (p .name))
+    post-is =
+        leaves-both (verdict (j .volume) (j .ring) (p .change) (p .name)) (j .volume) (postedVolume (j .volume) (j .ring) (p .name)) (j .ring)
+        (postedRing (j .volume) (j .ring) (p .change) (p .name))
 
-  gone-idle : usable (with (inState (j .volume) 0) (j .ring)) ≡ false
-  gone-idle = and-false (supported (j .volume .journal))
+    post-live : Widths (p .change) → h .live ≡ true → (b : Bool) → isPosted h (p .change) (p .name) ≡ b
+        → Next (cond b (written j (p .change) (p .name)) j) (cond b (added h (p .change) (p .name)) h)
+    post-live w v true q = added-next j h m (m .live v) (p .change) (p .name) w (accepted h (p .change) (p .name) v q)
+    post-live w v false q = stay
 
-  post-is : (c : Change) (name : List ℕ) → next j (post c name) ≡ leaves (verdict (j .volume) (j .ring) c name) j (written j c name)
-  post-is c name =
-      leaves-both (verdict (j .volume) (j .ring) c name) (j .volume) (postedVolume (j .volume) (j .ring) name) (j .ring) (postedRing (j .volume) (j .ring) c name)
+    posted-dead : h .live ≡ false → isPosted h (p .change) (p .name) ≡ false
+    unfolding isPosted
+    posted-dead v = rw v
 
-  post-live : (c : Change) (name : List ℕ) → Widths c → h .live ≡ true → Next (next j (post c name)) (notePost h c name)
-  unfolding notePost
-  post-live c name w v =
-      subst (λ (x : Journal). Next x (cond (isPosted h c name) (added h c name) h)) (sym (post-is c name ∙ live-post j h m (m .live v) v c name j (written j c name)))
-      (go (isPosted h c name) refl)
-    where
-      go : (b : Bool) → isPosted h c name ≡ b → Next (cond b (written j c name) j) (cond b (added h c name) h)
-      go true q =
-          let p = is-posted h c name q in
-          (added-sim j h m (m .live v) c name w p, added-grow j h m (m .live v) c name w p)
-      go false q = stay
+    post-step : Widths (p .change) → Next (afterPost j p) (notePost h p)
+    post-step w = by (h .live) refl
+      where
+        by : (v : Bool) → h .live ≡ v → Next (afterPost j p) (notePost h p)
+        by true v =
+            subst₂ Next (sym (post-is ∙ live-post j h m (m .live v) v (p .change) (p .name) j (written j (p .change) (p .name)))) (sym (note-posted h p _ refl))
+            (post-live w v (isPosted h (p .change) (p .name)) refl)
+        by false v =
+            subst₂ Next (sym (post-is ∙ dead-post j (p .change) (p .name) (m .dead v) j (written j (p .change) (p .name)))) (sym (note-posted h p false (posted-dead v))) stay
 
-  posted-dead : (c : Change) (name : List ℕ) → h .live ≡ false → isPosted h c name ≡ false
-  unfolding isPosted
-  posted-dead c name v = rw v
+  -- a deletion
+  module _ (id : ℕ) where
+    abbrev deletes : Option Status → Journal
+    deletes o = with (performed o (j .volume) (inState (j .volume) 2) .volume) (j .ring)
 
-  post-dead : (c : Change) (name : List ℕ) → h .live ≡ false → Next (next j (post c name)) (notePost h c name)
-  unfolding notePost
-  post-dead c name v =
-      subst₂ (λ (x : Journal) (y : Bool). Next x (cond y (added h c name) h)) (sym (post-is c name ∙ dead-post j c name (m .dead v) j (written j c name)))
-      (sym (posted-dead c name v)) stay
+    -- a journal that can't be used stays so
+    delete-dead : usable j ≡ false → usable (afterDelete j id) ≡ false
+    delete-dead u =
+        either (deleteCheck (j .volume) id) (j .volume) (inState (j .volume) 2) (λ (x : Volume). usable (with x (j .ring)) ≡ false) u
+        (unusable (inState (j .volume) 2) (j .ring) refl)
 
-  delete-is : (id : ℕ) → h .live ≡ true → deleteCheck (j .volume) id ≡ unless (eqb id (h .id)) InvalidParameter
-  delete-is id v =
+    -- a live one is deleted if the id is its own
+    delete-live : h .live ≡ true → (e : Bool) → eqb id (h .id) ≡ e → afterDelete j id ≡ deletes (unless e InvalidParameter)
+    delete-live v e q =
+        let l = m .live v in
+        ap (λ (o : Option Status). deletes (else o (unless (eqb id (j .volume .id)) InvalidParameter))) (active-none (j .volume) (l .active))
+        ∙ ap (λ (x : Bool). deletes (unless x InvalidParameter)) (ap (eqb id) (l .id) ∙ q)
+
+    delete-step : Next (afterDelete j id) (noteDelete h id)
+    delete-step = by (eqb id (h .id)) refl (h .live) refl
+      where
+        shut : usable (afterDelete j id) ≡ false → Next (afterDelete j id) (closed h)
+        shut u = (closed-sim j (afterDelete j id) h m u, grow-closed h)
+
+        by : (e : Bool) → eqb id (h .id) ≡ e → (v : Bool) → h .live ≡ v → Next (afterDelete j id) (noteDelete h id)
+        by true q true v = rw (note-closes h id q) (shut (ap usable (delete-live v true q) ∙ unusable (inState (j .volume) 2) (j .ring) refl))
+        by true q false v = rw (note-closes h id q) (shut (delete-dead (m .dead v)))
+        by false q true v = rw (note-keeps h id q, delete-live v false q) stay
+        by false q false v = rw (note-keeps h id q) (dead-sim j (afterDelete j id) h m v (delete-dead (m .dead v)), grow-same h)
+
+  -- a live history's journal can be used
+  live-usable : h .live ≡ true → usable j ≡ true
+  live-usable v =
       let l = m .live v in
-      ap₂ (λ (x y : Bool). else (else (unless (not x) JournalDeleteInProgress) (unless y JournalNotActive)) (unless (eqb id (j .volume .id)) InvalidParameter))
-      (not-in (j .volume) (l .active)) (l .active)
-      ∙ ap (λ (x : ℕ). unless (eqb id x) InvalidParameter) (l .id)
+      and-true _ _ (l .supported) (and-true _ _ (l .active) (eq-eqb _ _ (l .buffer)))
 
-  delete-live : (id : ℕ) → h .live ≡ true → Next (next j (delete id)) (noteDelete h id)
-  unfolding noteDelete
-  delete-live id v =
-      subst (λ (o : Option Status). Next (with (performed o (j .volume) (inState (j .volume) 2) .volume) (j .ring)) (cond (eqb id (h .id)) (closed h) h))
-      (sym (delete-is id v)) (go (eqb id (h .id)))
+  nothing-step : (k : Journal) → usable j ≡ false → usable k ≡ false → Next k h
+  nothing-step k u w = by (h .live) refl
     where
-      go : (e : Bool) → Next (with (performed (unless e InvalidParameter) (j .volume) (inState (j .volume) 2) .volume) (j .ring)) (cond e (closed h) h)
-      go true = (closed-sim j (with (inState (j .volume) 2) (j .ring)) h m gone-deleting, grow-closed h)
-      go false = stay
+      by : (v : Bool) → h .live ≡ v → Next k h
+      by true v = let z : usable j ≡ true = live-usable v in clash cc
+      by false v = (dead-sim j k h m v w, grow-same h)
 
-  delete-dead : (id : ℕ) → h .live ≡ false → Next (next j (delete id)) (noteDelete h id)
-  unfolding noteDelete
-  delete-dead id v = go (deleteCheck (j .volume) id) (eqb id (h .id))
-    where
-      left : (o : Option Status) → usable (with (performed o (j .volume) (inState (j .volume) 2) .volume) (j .ring)) ≡ false
-      left none = gone-deleting
-      left (some x) = m .dead v
-
-      go : (o : Option Status) (e : Bool) → Next (with (performed o (j .volume) (inState (j .volume) 2) .volume) (j .ring)) (cond e (closed h) h)
-      go o true = (closed-sim j (with (performed o (j .volume) (inState (j .volume) 2) .volume) (j .ring)) h m (left o), grow-closed h)
-      go o false = (dead-sim j (with (performed o (j .volume) (inState (j .volume) 2) .volume) (j .ring)) h m v (left o), grow-same h)
-
-  finish-live : h .live ≡ true → Next (next j finish) h
-  finish-live v =
-      subst (λ (x : Bool). Next (with (performed (else (unless (x || isDeleting (j .volume)) JournalNotActive) (unless (not x) InvalidParameter)) (j .volume) (inState (j .volume) 0) .volume) (j .ring)) h)
-      (sym (m .live v .active)) stay
-
-  finish-dead : h .live ≡ false → Next (next j finish) h
-  finish-dead v = go (finishCheck (j .volume))
-    where
-      go : (o : Option Status) → Next (with (performed o (j .volume) (inState (j .volume) 0) .volume) (j .ring)) h
-      go none = (dead-sim j (with (inState (j .volume) 0) (j .ring)) h m v gone-idle, grow-same h)
-      go (some x) = stay
+  effect-step : (e : Effect) (k : Called) → Does j e k → TypedEffect e → (isOpening e ≡ true → k .status ≡ Success → ⊥) → Next (k .journal) (noteEffect h e)
+  effect-step (opens at id ps) k d t r = subst (λ (x : Journal). Next x h) (sym (d .1 (r refl))) stay
+  effect-step (posts p) k d t r = subst (λ (x : Journal). Next x (notePost h p)) (sym d) (post-step p t)
+  effect-step (closes id) k d t r = subst (λ (x : Journal). Next x (noteDelete h id)) (sym d) (delete-step id)
+  effect-step nothing k (inl d) t r = subst (λ (x : Journal). Next x h) (sym d) stay
+  effect-step nothing k (inr d) t r = nothing-step (k .journal) (d .0) (d .1)
 
   pub sim-step : (c : Call) → Typed c → CreatesNone j c → Sim (next j c) (note h c) × Grow h (note h c)
-  sim-step (create id) t r =
-      subst (λ (x : Volume). Next (with x (j .ring)) h) (sym (refused-volume (createCheck (j .volume) id) (j .volume) (created (j .volume) id) r)) stay
-  sim-step (post c name) t r = by (h .live) refl
-    where
-      by : (v : Bool) → h .live ≡ v → Next (next j (post c name)) (notePost h c name)
-      by true q = post-live c name t q
-      by false q = post-dead c name q
-  sim-step (read a) t r = stay
-  sim-step (delete id) t r = by (h .live) refl
-    where
-      by : (v : Bool) → h .live ≡ v → Next (next j (delete id)) (noteDelete h id)
-      by true q = delete-live id q
-      by false q = delete-dead id q
-  sim-step finish t r = by (h .live) refl
-    where
-      by : (v : Bool) → h .live ≡ v → Next (next j finish) h
-      by true q = finish-live q
-      by false q = finish-dead q
+  sim-step c t r = effect-step (effect c) (called j c) (does j c) t r
 
--- ---- a creation that succeeds
+-- ---- an opening that succeeds
 
-created-check : (v w : Volume) (a b c d : Bool)
-    → let k = else (unless a JournalDeleteInProgress) (else (unless b InvalidParameter) (else (unless c InvalidParameter) (unless d FileCorruptError))) in
-    performed k v w .status ≡ Success → (d ≡ true) × (performed k v w .volume ≡ w)
-created-check v w true true true true e = (refl, refl)
-created-check v w true true true false e = absurd (let z : _≡_ {A = ℕ} 0 1 = cc in omega arith)
-created-check v w true true false d e = absurd (let z : _≡_ {A = ℕ} 0 1 = cc in omega arith)
-created-check v w true false c d e = absurd (let z : _≡_ {A = ℕ} 0 1 = cc in omega arith)
-created-check v w false b c d e = absurd (let z : _≡_ {A = ℕ} 0 1 = cc in omega arith)
-
-module _ (j : Journal) (id : ℕ) (e : outcome j (create id) .status ≡ Success) where
-  abbrev v : Volume
-  v = j .volume
-
-  checks : (goodCapacity (v .capacity) && goodPosition (v .last) ≡ true) × (outcome j (create id) .volume ≡ created v id)
-  checks =
-      created-check v (created v id) (not (isDeleting v)) (not (isActive v)) (not (eqb id 0) && not (eqb id (v .id)))
-      (goodCapacity (v .capacity) && goodPosition (v .last)) e
-
-  place : (v .last % 8 ≡ 0) × (v .last < 2 ^ 63)
-  place = position-facts (v .last) (and-right (goodCapacity (v .capacity)) _ (checks .0))
-
-  none-kept : keptBytes (created v id) (j .ring) ≡ joined []
+module _ (j : Journal) (p id : ℕ) (cap : goodCapacity (j .volume .capacity) ≡ true) (pos : goodPosition p ≡ true) where
+  none-kept : keptBytes (emptied j p id .volume) (j .ring) ≡ joined []
   unfolding keptBytes joined
   none-kept =
-      let z : v .last - v .last ≡ 0 = omega arith in
-      ap (λ (n : ℕ). take n (rotated (j .ring) (v .last % length (j .ring)))) z
+      let z : p - p ≡ 0 = omega arith in
+      ap (λ (n : ℕ). take n (rotated (j .ring) (p % length (j .ring)))) z
 
-  opened-sim : Sim (with (created v id) (j .ring)) (opened v (length (j .ring)) id)
+  opened-sim : Sim (emptied j p id) (opened (j .volume) (length (j .ring)) p id)
   unfolding opened
   opened-sim =
+      let f = position-facts p pos in
       record {
-        gone = refl;
-        here = refl;
-        low = place .1;
-        firstEight = place .0;
-        endEight = place .0;
-        capacity = and-left (goodCapacity (v .capacity)) _ (checks .0);
-        span = omega arith;
+        shape = record { gone = refl; here = refl; low = f .1; firstEight = f .0; endEight = f .0; capacity = cap; span = omega arith };
         live = λ q. record {
-          supported = and-left (supported (v .journal)) _ q;
+          supported = and-left (supported (j .volume .journal)) _ q;
           active = refl;
-          buffer = eqb-true _ _ (and-right (supported (v .journal)) _ q);
+          buffer = eqb-true _ _ (and-right (supported (j .volume .journal)) _ q);
           capacity = refl;
           id = refl;
           first = refl;
@@ -519,8 +422,24 @@ module _ (j : Journal) (id : ℕ) (e : outcome j (create id) .status ≡ Success
         dead = λ q. q;
       }
 
-  pub create-sim : Sim (next j (create id)) (opened (j .volume) (length (j .ring)) id)
-  create-sim = subst (λ (x : Volume). Sim (with x (j .ring)) (opened v (length (j .ring)) id)) (sym (checks .1)) opened-sim
+posts-sim : (ps : List Posting) (j : Journal) (h : History) → Sim j h → AllWidths ps → Sim (afterPosts j ps) (notePosts h ps)
+posts-sim [] j h m w = m
+posts-sim (p ∷ ps) j h m w = posts-sim ps (afterPost j p) (notePost h p) (post-step j h m p (w .0) .0) (w .1)
+
+effect-opens : (j : Journal) (e : Effect) (k : Called) (h : History) → Does j e k → TypedEffect e → k .status ≡ Success
+    → openedBy (j .volume) (length (j .ring)) e ≡ some h → Sim (k .journal) h
+effect-opens j (opens at id ps) k h d t s o =
+    let g = d .0 s in
+    let p : ℕ = at (j .volume) in
+    let z : notePosts (opened (j .volume) (length (j .ring)) p id) ps ≡ h = cc in
+    subst₂ Sim (sym (g .journal)) z (posts-sim ps (emptied j p id) (opened (j .volume) (length (j .ring)) p id) (opened-sim j p id (g .capacity) (g .position)) t)
+effect-opens j (posts p) k h d t s o = clash cc
+effect-opens j (closes id) k h d t s o = clash cc
+effect-opens j nothing k h d t s o = clash cc
+
+-- what a call opens goes together with its history
+pub opening-sim : (j : Journal) (c : Call) (h : History) → Typed c → statusOf j c ≡ Success → opening (j .volume) (length (j .ring)) c ≡ some h → Sim (next j c) h
+opening-sim j c h t s o = effect-opens j (effect c) (called j c) h (does j c) t s o
 
 -- ---- lists of calls
 
@@ -528,13 +447,9 @@ pub sim-run : (cs : List Call) (j : Journal) (h : History) → Sim j h → AllTy
 sim-run [] j h m t r = m
 sim-run (c ∷ cs) j h m t r = sim-run cs (next j c) (note h c) (sim-step j h m c (t .0) (r .0) .0) (t .1) (r .1)
 
-left-nil : (x y : List Record) → x ++ y ≡ [] → x ≡ []
-left-nil [] y q = refl
-left-nil (r ∷ x) y q = absurd (nil≢cons (sym q))
-
-right-nil : (x y : List Record) → x ++ y ≡ [] → y ≡ []
-right-nil [] y q = q
-right-nil (r ∷ x) y q = absurd (nil≢cons (sym q))
+pub nil-parts : (x y : List Record) → x ++ y ≡ [] → (x ≡ []) × (y ≡ [])
+nil-parts [] y q = (refl, q)
+nil-parts (r ∷ x) y q = absurd (nil≢cons (sym q))
 
 pub grow-trans : (a b c : History) → Grow a b → Grow b c → Grow a c
 grow-trans a b c g h =
@@ -543,7 +458,7 @@ grow-trans a b c g h =
       parts = h .parts ∙ ap (λ (x : List Record). x ++ h .more) (g .parts) ∙ append-assoc (posted a) (g .more) (h .more);
       chain = chain-append (a .end) (g .more) (b .end) (h .more) (c .end) (g .chain) (h .chain);
       base = h .base ∙ g .base;
-      calm = λ q. h .calm (right-nil (g .more) (h .more) q) ∙ g .calm (left-nil (g .more) (h .more) q);
+      calm = λ q. let n = nil-parts (g .more) (h .more) q in h .calm (n .1) ∙ g .calm (n .0);
     }
 
 pub grow-run : (cs : List Call) (j : Journal) (h : History) → Sim j h → AllTyped cs → NoCreation j cs → Grow h (notes h cs)

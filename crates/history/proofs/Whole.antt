@@ -1,10 +1,10 @@
 -- What every reader is promised: progress, and the whole promise over every list of calls.
 -- Assumes nothing.
-use mathlib.Core.Path.{_≡_, refl, sym, ap, ap₂, _∙_, subst, subst₂}
+use mathlib.Core.Path.{_≡_, refl, sym, ap, ap₂, _∙_, subst}
 use mathlib.Core.Logic.{_⊎_, inl, inr}
 use mathlib.Core.Bool.{Bool, true, false, cond, _&&_}
 use mathlib.Core.Option.{none, some}
-use mathlib.Core.List.{List, [], _∷_, _++_, map, append-assoc, append-nil, nil≢cons, append-cancel-left}
+use mathlib.Core.List.{List, [], _∷_, _++_, map, append-assoc, append-nil, append-cancel-left}
 use Prim.Native.Nat.{ℕ, _+_, _-_, _≤_}
 use native.Mathlib.Omega.{arith}
 use lib.Dec.{leb, ltb}
@@ -20,18 +20,19 @@ use Rattle.usn_record.specs.Layout.{Record}
 use Rattle.reply_walker.specs.Reply.{positionOf}
 use Rattle.journal.specs.Boundary.{recordsAfter}
 use Rattle.journal_page.specs.declared.Filter.{Filter}
-use Rattle.journal_read.specs.Input.{versionOf, argumentCheck}
+use Rattle.journal_read.specs.Input.{versionOf}
 use Rattle.journal_page.specs.Select.{selects}
 use Rattle.journal_page.specs.Page.{Page, pageOf, empty, pageBytes, pageReply}
-use Rattle.history.specs.Calls.{Read, Call, create, post, read, delete, finish, Journal, replyTo, outcome, next, runs, AllTyped}
-use Rattle.history.specs.Log.{History, posted, opened, note, notes, opens}
+use Rattle.history.specs.Calls.{Read, Call, Journal, replyTo, next, runs, AllTyped}
+use Rattle.history.specs.Log.{History, posted, note, notes}
 use Rattle.history.specs.Reading.{Reader, fresh, advanced, told, Turn, mine, other, callOf, follow, Carries, Chosen}
-use Rattle.history.specs.Demand.{filter, between, above, Rising, Startable, DroppedAbove, NoCreation, isNone, wellFormed, one, counts, ample, ReaderPromise, Demand3}
+use Rattle.history.specs.Demand.{filter, between, above, Rising, Startable, DroppedAbove, NoCreation, wellFormed, one, counts, ample, ReaderPromise, Demand3}
 use Rattle.history.proofs.Links.{Chain, chain-le, link-rises}
+use Rattle.history.proofs.Effects.{clash}
 use Rattle.history.proofs.Sim.{Sim, Grow}
 use Rattle.history.proofs.Chains.{filter-chain, filter-none, above-low, above-all, above-append, after-here, after-mem, some-above, first-fits}
-use Rattle.history.proofs.Simulate.{sim-step, create-sim, sim-run, grow-run}
-use Rattle.history.proofs.Readers.{clash, whole, Stand, stand-boundary, stand-grow, none-is, told-reply, deleted-iff, Advance, own-reply, refusal, stand-step, stand-run}
+use Rattle.history.proofs.Simulate.{sim-step, opening-sim, nil-parts, sim-run, grow-run}
+use Rattle.history.proofs.Readers.{whole, Stand, stand-boundary, stand-grow, formed, told-reply, deleted-iff, Advance, own-reply, refusal, stand-step, stand-run}
 
 -- ---- progress
 
@@ -62,26 +63,14 @@ enough b n room h k = omega (arith, leb-true n room (and-right b (leb n room) h)
 answered : (j : Journal) (h : History) (d : Reader) → Sim j h → Stand h d → h .first ≤ d .position
     → (a : Read) → Carries d a → counts h (mine a) ≡ true
     → (bytes : List ℕ) × (replyTo j a ≡ give Success bytes)
-unfolding wellFormed
-answered j h d m t low a k w = (_, told-reply j h m d t a k live ok low ∙ reply-full (versionOf (a .input)) _ fit)
-  where
-    formed : h .live && isNone (argumentCheck (h .id) (a .input) (a .room)) ≡ true
-    formed = and-left (h .live && isNone (argumentCheck (h .id) (a .input) (a .room))) _ w
-
-    room : 592 ≤ a .room - 8
-    room = enough (h .live && isNone (argumentCheck (h .id) (a .input) (a .room))) _ (a .room) w (omega arith)
-
-    live : h .live ≡ true
-    live = and-left (h .live) (isNone (argumentCheck (h .id) (a .input) (a .room))) formed
-
-    ok : argumentCheck (h .id) (a .input) (a .room) ≡ none
-    ok = none-is (argumentCheck (h .id) (a .input) (a .room)) (and-right (h .live) (isNone (argumentCheck (h .id) (a .input) (a .room))) formed)
-
-    page : Page
-    page = pageOf (versionOf (a .input)) (d .filter) (a .room - 8) (d .position) (t .rest)
-
-    fit : page .cut && empty (page .given) ≡ false
-    fit = first-fits (versionOf (a .input)) (d .filter) (a .room - 8) (d .position) (t .rest) (h .end) (stand-boundary j h d m t .beyond) room
+answered j h d m t low a k w =
+    let g = formed h a (and-left (wellFormed h a) _ w) in
+    let page = pageOf (versionOf (a .input)) (d .filter) (a .room - 8) (d .position) (t .rest) in (
+      _,
+      told-reply j h m d t a k (g .0) (g .1) low ∙ reply-full (versionOf (a .input)) page
+          (first-fits (versionOf (a .input)) (d .filter) (a .room - 8) (d .position) (t .rest) (h .end) (stand-boundary j h d m t .beyond)
+          (enough (wellFormed h a) _ (a .room) w (omega arith))),
+    )
 
 -- the reader is at the end, or has reads enough before it
 abbrev Soon : History → Reader → ℕ → Type 0
@@ -90,16 +79,6 @@ Soon h d k = (d .position ≡ h .end) ⊎ ((1 ≤ k) × (need h d ≤ k))
 one-le : (x : Bool) → one x ≤ 1
 one-le true = omega arith
 one-le false = omega arith
-
-append-same : (x y : List Record) → x ++ y ≡ x → y ≡ []
-append-same x y h = append-cancel-left x y [] (h ∙ sym (append-nil x))
-
-append-nil-left : (x y : List Record) → x ++ y ≡ [] → x ≡ []
-append-nil-left [] y q = refl
-append-nil-left (r ∷ x) y q = absurd (nil≢cons (sym q))
-
-refuse-give : (x y : Status) (bytes : List ℕ) → refuse x ≡ give y bytes → ⊥
-refuse-give x y bytes e = clash cc
 
 module _ (j : Journal) (h : History) (d : Reader) (m : Sim j h) (t : Stand h d) (low : h .first ≤ d .position) where
   soon-reply : (a : Read) (bytes : List ℕ) (x : Bool) (k : ℕ) → Advance h d t a bytes → Soon h d (one x + k) → Soon h (advanced a bytes d) k
@@ -115,7 +94,8 @@ module _ (j : Journal) (h : History) (d : Reader) (m : Sim j h) (t : Stand h d) 
           inr (omega (arith, v .sum, one-le x, e .0, e .1, s .0, s .1), omega (arith, v .sum, one-le x, e .0, e .1, s .0, s .1))
 
   -- one of the reader's own reads
-  soon-mine : (a : Read) → Carries d a → (k : ℕ) → Soon h d (one (counts h (mine a)) + k) → Soon h (told a (replyTo j a) d) k
+  soon-mine : (a : Read) → Carries d a → (k : ℕ) → Soon h d (one (counts h (mine a)) + k)
+      → (h .first ≤ told a (replyTo j a) d .position) × Soon h (told a (replyTo j a) d) k
   soon-mine a c k s = go (replyTo j a) refl (counts h (mine a)) refl s
     where
       same : (x : Bool) → (x ≡ true → ⊥) → Soon h d (one x + k) → Soon h d k
@@ -123,22 +103,12 @@ module _ (j : Journal) (h : History) (d : Reader) (m : Sim j h) (t : Stand h d) 
       same false n (inl s) = inl s
       same false n (inr s) = inr (omega arith, omega arith)
 
-      go : (r : Reply) → replyTo j a ≡ r → (x : Bool) → counts h (mine a) ≡ x → Soon h d (one x + k) → Soon h (told a r d) k
-      go (refuse i) e x q s =
-          same x (λ z. let w = answered j h d m t low a c (q ∙ z) in refuse-give i Success (w .0) (sym e ∙ w .1)) s
+      go : (r : Reply) → replyTo j a ≡ r → (x : Bool) → counts h (mine a) ≡ x → Soon h d (one x + k) → (h .first ≤ told a r d .position) × Soon h (told a r d) k
+      go (refuse i) e x q s = (low, same x (λ z. let w = answered j h d m t low a c (q ∙ z) in let z : refuse i ≡ give Success (w .0) = sym e ∙ w .1 in clash cc) s)
       go (give i bytes) e x q s =
           let o = own-reply j h m d t a c i bytes e in
-          subst (λ (y : Status). Soon h (told a (give y bytes) d) k) (sym (o .0)) (soon-reply a bytes x k (o .1) s)
-
-  low-mine : (a : Read) → Carries d a → h .first ≤ told a (replyTo j a) d .position
-  low-mine a c = go (replyTo j a) refl
-    where
-      go : (r : Reply) → replyTo j a ≡ r → h .first ≤ told a r d .position
-      go (refuse i) e = low
-      go (give i bytes) e =
-          let o = own-reply j h m d t a c i bytes e in
           let z : h .first ≤ positionOf bytes = omega (arith, o .1 .rises, low) in
-          subst (λ (y : Status). h .first ≤ told a (give y bytes) d .position) (sym (o .0)) z
+          subst (λ (y : Status). (h .first ≤ told a (give y bytes) d .position) × Soon h (told a (give y bytes) d) k) (sym (o .0)) (z, soon-reply a bytes x k (o .1) s)
 
   -- a call of anybody that posts nothing
   module _ (k : History) (g : Grow h k) (n : g .more ≡ []) where
@@ -160,19 +130,20 @@ progress : (us : List Turn) (j : Journal) (h : History) (d : Reader) → Sim j h
 progress [] j h d m t low y n c quiet (inl s) = s
 progress [] j h d m t low y n c quiet (inr s) = absurd (omega arith)
 progress (mine a ∷ us) j h d m t low y n c quiet soon =
-    progress us j h (told a (replyTo j a) d) m (stand-step j h d m t (mine a) tt tt (c .0)) (low-mine j h d m t low a (c .0))
-    (y .1) (n .1) (c .1) quiet
-    (soon-mine j h d m t low a (c .0) (ample h us) soon)
+    let s = soon-mine j h d m t low a (c .0) (ample h us) soon in
+    progress us j h (told a (replyTo j a) d) m (stand-step j h d m t (mine a) (y .0) (n .0) (c .0)) (s .0) (y .1) (n .1) (c .1) quiet (s .1)
 progress (other k ∷ us) j h d m t low y n c quiet soon =
     let s = sim-step j h m k (y .0) (n .0) in
     let rest = grow-run (map callOf us) (next j k) (note h k) (s .0) (y .1) (n .1) in
     let calm : s .1 .more ≡ [] =
-    append-nil-left (s .1 .more) (rest .more)
-    (append-same (posted h) (s .1 .more ++ rest .more)
+    nil-parts (s .1 .more) (rest .more)
+    (append-cancel-left (posted h) (s .1 .more ++ rest .more) []
     (sym (append-assoc (posted h) (s .1 .more) (rest .more))
     ∙ ap (λ (x : List Record). x ++ rest .more) (sym (s .1 .parts))
     ∙ sym (rest .parts)
-    ∙ quiet)) in
+    ∙ quiet
+    ∙ sym (append-nil (posted h))))
+    .0 in
     progress us (next j k) (note h k) d (s .0) (stand-grow j h (note h k) d m (s .1) t) (omega (arith, s .1 .calm calm, low)) (y .1) (n .1) (c .1)
     (quiet ∙ sym (same-posted j h d m t low (note h k) (s .1) calm))
     (soon-other j h d m t low (note h k) (s .1) calm (ample (note h k) us) soon)
@@ -213,7 +184,7 @@ not-dropped j h d m t n = go (ltb (d .position) (h .first)) refl
     go true q =
         let e = stand-boundary j h d m t in
         absurd
-        (n (some-above (h .base) (h .dropped) (h .first) (d .position) (m .gone) (chain-le (h .base) (e .before) (d .position) (e .upto)) (ltb-true (d .position) (h .first) q)))
+        (n (some-above (h .base) (h .dropped) (h .first) (d .position) (m .shape .gone) (chain-le (h .base) (e .before) (d .position) (e .upto)) (ltb-true (d .position) (h .first) q)))
 
 rising : (p : ℕ) (l : List Record) (e : ℕ) → Chain p l e → Rising p l
 rising p [] e h = tt
@@ -232,42 +203,16 @@ promise j h d m t =
 
 -- ---- the whole list
 
-typed-parts : (x y : List Call) → AllTyped (x ++ y) → AllTyped x × AllTyped y
-typed-parts [] y h = (tt, h)
-typed-parts (c ∷ x) y h = let k = typed-parts x y (h .1) in ((h .0, k .0), k .1)
-
-none-parts : (x y : List Call) (j : Journal) → NoCreation j (x ++ y) → NoCreation j x × NoCreation (runs j x) y
-none-parts [] y j h = (tt, h)
-none-parts (c ∷ x) y j h = let k = none-parts x y (next j c) (h .1) in ((h .0, k .0), k .1)
-
-runs-append : (x y : List Call) (j : Journal) → runs j (x ++ y) ≡ runs (runs j x) y
-runs-append [] y j = refl
-runs-append (c ∷ x) y j = runs-append x y (next j c)
-
-notes-append : (x y : List Call) (h : History) → notes h (x ++ y) ≡ notes (notes h x) y
-notes-append [] y h = refl
-notes-append (c ∷ x) y h = notes-append x y (note h c)
-
--- what a call opens goes together with its history
-opens-sim : (j : Journal) (c : Call) (h : History) → outcome j c .status ≡ Success → opens (j .volume) (length (j .ring)) c ≡ some h
-    → Sim (next j c) h
-opens-sim j (create id) h k o =
-    let z : opened (j .volume) (length (j .ring)) id ≡ h = cc in
-    subst (λ (x : History). Sim (next j (create id)) x) z (create-sim j id k)
-opens-sim j (post c name) h k o = clash cc
-opens-sim j (read a) h k o = clash cc
-opens-sim j (delete id) h k o = clash cc
-opens-sim j finish h k o = clash cc
+-- a reader that starts after the calls `before`
+module _ (ts : List Turn) (start : ℕ) (f : Filter) (pos : start ≡ 0 → ⊥) where
+  from : (before : List Call) (j : Journal) (h : History) → Sim j h → AllTyped (before ++ map callOf ts) → NoCreation j (before ++ map callOf ts)
+      → Startable (notes h before) start → Chosen (runs j before) (fresh start f) ts
+      → ReaderPromise (runs j (before ++ map callOf ts)) (notes h (before ++ map callOf ts)) (follow (runs j before) (fresh start f) ts)
+  from [] j h m y n at own =
+      promise (runs j (map callOf ts)) (notes h (map callOf ts)) (follow j (fresh start f) ts) (sim-run (map callOf ts) j h m y n)
+      (stand-run ts j h (fresh start f) m (stand-fresh j h m start f pos at) y n own)
+  from (c ∷ before) j h m y n at own = from before (next j c) (note h c) (sim-step j h m c (y .0) (n .0) .0) (y .1) (n .1) at own
 
 -- the promise to every reader, over every list of calls from a creation on
 pub demand3 : Demand3
-demand3 j c h k o before ts start f w y n at pos own =
-    let j₁ : Journal = next j c in
-    let us : List Call = map callOf ts in
-    let ys = typed-parts before us y in
-    let ns = none-parts before us j₁ n in
-    let m = sim-run before j₁ h (opens-sim j c h k o) (ys .0) (ns .0) in
-    let t = stand-fresh (runs j₁ before) (notes h before) m start f pos at in
-    subst₂ (λ (x : Journal) (z : History). ReaderPromise x z (follow (runs j₁ before) (fresh start f) ts)) (sym (runs-append before us j₁)) (sym (notes-append before us h))
-    (promise (runs (runs j₁ before) us) (notes (notes h before) us) (follow (runs j₁ before) (fresh start f) ts)
-    (sim-run us (runs j₁ before) (notes h before) m (ys .1) (ns .1)) (stand-run ts (runs j₁ before) (notes h before) (fresh start f) m t (ys .1) (ns .1) own))
+demand3 j c h k o before ts start f w y n at pos own = from ts start f pos before (next j c) h (opening-sim j c h w k o) y n at own

@@ -15,8 +15,8 @@ use Rattle.journal_page.specs.declared.Filter.{Filter}
 use Rattle.journal_read.specs.Input.{startOf, filterOf, versionOf}
 use Rattle.history.specs.Calls.{Read, Call, read, Journal, replyTo, next}
 
--- what one SUCCESS reply hands out: the version asked for, and the bytes behind the position
-pub record Sheet : Type 0 where
+-- a SUCCESS reply as the reader has it: the version asked for, and all of the reply's bytes
+pub record Received : Type 0 where
   pub version : Version
   pub bytes : List ℕ
 
@@ -24,7 +24,7 @@ pub record Reader : Type 0 where
   pub start : ℕ
   pub filter : Filter
   pub position : ℕ
-  pub handed : List Sheet
+  pub handed : List Received
 
 abbrev pub fresh : ℕ → Filter → Reader
 fresh start f = record { start = start; filter = f; position = start; handed = [] }
@@ -36,7 +36,7 @@ advanced a bytes d =
       start = d .start;
       filter = d .filter;
       position = positionOf bytes;
-      handed = d .handed ++ (record { version = versionOf (a .input); bytes = drop 8 bytes } ∷ []);
+      handed = d .handed ++ (record { version = versionOf (a .input); bytes = bytes } ∷ []);
     }
 
 -- only a SUCCESS reply moves it or hands it anything
@@ -79,7 +79,7 @@ abbrev pub Chosen : Journal → Reader → List Turn → Type 0
 Chosen j d [] = Unit {0}
 Chosen j d (t ∷ ts) = Own d t × Chosen (next j (callOf t)) (hears j d t) ts
 
--- the sheets hold exactly these records, in this order, each byte for byte its layout in the sheet's version
-abbrev pub Hold : List Sheet → List Record → Type 0
+-- the replies hold, behind their positions, exactly these records, in this order, each byte for byte its layout in the reply's version
+abbrev pub Hold : List Received → List Record → Type 0
 Hold [] rs = rs ≡ []
-Hold (s ∷ sheets) rs = (here : List Record) × (later : List Record) × (rs ≡ here ++ later) × (s .bytes ≡ joined (map (inVersion (s .version)) here)) × Hold sheets later
+Hold (s ∷ ss) rs = (here : List Record) × (later : List Record) × (rs ≡ here ++ later) × (drop 8 (s .bytes) ≡ joined (map (inVersion (s .version)) here)) × Hold ss later
