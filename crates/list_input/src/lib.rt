@@ -1,7 +1,13 @@
 // Reads a reply from a descriptor and writes its listing to standard output.
+ghost use mathlib.Core.List.{List};
+ghost use Prim.Native.Nat.{ℕ, _+_, _*_, _≤_, _<_};
 ghost use lib.ListN.{length};
-ghost use Rattle.list_input.specs.Input.{Within};
+ghost use Rattle.status.specs.declared.Status.the-variants.{Success};
+ghost use Rattle.status.specs.Reply.{give, Replied};
+ghost use Rattle.usn_listing.specs.Listing.{listing};
+ghost use Rattle.list_input.specs.Input.{Within, ReadInto};
 use libc::STDOUT_FILENO;
+use status::Answer;
 
 // What reading an input to its end found: how many bytes there were, or that a read failed.
 pub enum Input {
@@ -29,8 +35,17 @@ pub fn read_all(fd: i32, buf: &mut [u8]) -> Input
     Input::Bytes(done)
 }
 
-// Lists the reply that `fd` holds. The buffer has a byte more than a reply may have, to tell a reply that is too long.
-// No contract can speak of what the system reads or writes: all that is decided about the bytes is `list_reply`'s.
+// Lists the input whose first n bytes stand in `buf`: all of it, or as much as `buf` takes. The buffer has more bytes than a reply
+// may have, so an input that fills it is too long, whatever follows.
+fn list_read(text: &mut [u8], buf: &[u8], n: usize) -> Answer
+    requires { ⌜ (n ≤ length (now buf)) × (65536 < length (now buf)) × (64 + 2 * length (now buf) ≤ length (now text)) ⌝ }
+    ensures { λ r. ⌜ ((input : List ℕ) → ReadInto (now (buf .entry)) n input → Replied (give Success (listing input)) r (now (text .entry)) (now (text .exit))) ⌝ }
+{
+    usn_listing::list_reply(text, &buf[..n])
+}
+
+// Lists the reply that `fd` holds. No contract can speak of what the system reads or writes: all that is decided about the bytes
+// is `list_read`'s.
 pub fn list(fd: i32)
     ensures { λ _. ⊤ₛ }
 {
@@ -41,7 +56,7 @@ pub fn list(fd: i32)
         return;
     };
     let mut text = [0u8; 131138];
-    let answer = usn_listing::list_reply(&mut text, &input[..n]);
+    let answer = list_read(&mut text, &input, n);
     let count = answer.count;
     if !io::write_all(STDOUT_FILENO, &text[..count]) {
         os::fail(b"write");

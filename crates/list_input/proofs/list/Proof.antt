@@ -1,19 +1,24 @@
--- `list` is safe and ends: what was read lies in its buffer, and what is written in the text's.
+-- `list` is safe and ends: what was read lies in its buffer, which has more bytes than a reply may have, and what is written in the text's.
 -- Assumes nothing.
 use mathlib.Core.Path.{_≡_, sym}
+use mathlib.Core.List.{List}
 use Prim.Native.Nat.{ℕ, _≤_}
 use native.Mathlib.Omega.{arith}
-use lib.ListN.{length}
-use lib.Seq.{length-take-le}
+use lib.ListN.{length, take}
+use lib.Seq.{take-all, length-take-le}
 use Rattle.status.proofs.Replies.{count-fits}
 use Rattle.list_input.specs.declared.Input.{Input}
 use Rattle.list_input.specs.declared.Input.the-variants.{Bytes}
-use Rattle.list_input.specs.Input.{Within}
+use Rattle.list_input.specs.Input.{Within, ReadInto}
 use Rattle.list_input.proofs.list.Statement.{statement}
 use Rattle.list_input.proofs.list.Tie as tie
 
 within : (size n : ℕ) (r : Input) → r ≡ Bytes n → Within size r → n ≤ size
 within size n r e w = rw e at w
+
+-- an input of which all was read
+whole : (buf : List ℕ) (n : ℕ) → n ≤ length buf → ReadInto buf n (take n buf)
+whole buf n h = sym (take-all (length buf) (take n buf) (omega (arith, length-take-le n buf h)))
 
 inside : (c : tie.After-read) → c .read .given .0 .0 ≤ length (c .before .before .before .read-all .last .1 .0)
 inside c =
@@ -21,14 +26,17 @@ inside c =
     let h = within _ (c .read .given .0 .0) (r .read-all .result) (c .read .given .1) (r .read-all .ensures) in
     omega (arith, h, r .read-all .kept .1 .0)
 
-counted : (c : tie.After-list-reply) → c .list-reply .result .count ≤ length (c .list-reply .last .0)
-counted c = omega (arith, count-fits _ _ _ _ (c .list-reply .ensures) (c .list-reply .kept .0), c .list-reply .kept .0)
+counted : (c : tie.After-list-read) → c .list-read .result .count ≤ length (c .list-read .last .0)
+counted c =
+    let n = c .before .before .before .before in
+    let k = c .list-read .ensures _ (whole (n .before .before .before .read-all .last .1 .0) (n .read .given .0 .0) (inside n)) in
+    omega (arith, count-fits _ _ _ _ k (c .list-read .kept .0), c .list-read .kept .0)
 
-array-share-prefix-input : tie.Need-array-share-prefix-input
-array-share-prefix-input c = inside (c .before .before)
-
-slice-aggregate-list-reply-2 : tie.Need-slice-aggregate-list-reply-2
-slice-aggregate-list-reply-2 c = sym (length-take-le _ _ (inside (c .before .before .before)))
+list-read-requires : tie.Need-list-read-requires
+list-read-requires c κs =
+    let n = c .before .before .before in
+    let r = n .before .before .before in
+    (inside n, omega (arith, r .read-all .kept .1 .0), omega (arith, r .read-all .kept .1 .0))
 
 array-share-prefix-text : tie.Need-array-share-prefix-text
 array-share-prefix-text c = counted (c .before)
@@ -48,9 +56,8 @@ list-spec =
     (λ c κs. omega arith)
     (λ c. omega arith)
     (λ c. omega arith)
-    array-share-prefix-input
-    slice-aggregate-list-reply-2
-    (λ c κs. omega arith)
+    (λ c. omega arith)
+    list-read-requires
     array-share-prefix-text
     slice-aggregate-write-all
     (λ c κs. omega arith)
