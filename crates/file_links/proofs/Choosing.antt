@@ -13,7 +13,8 @@ use borrow.Author.Tests.{eq-eqb, ne-eqb, le-leb}
 use Rattle.le.proofs.Runs.{and-left, and-right}
 use Rattle.usn_record.specs.Layout.{goodName}
 use Rattle.file_links.specs.declared.Link.{Link}
-use Rattle.file_links.specs.Links.{linksOf, goodLink, goodLinks, has, firstOf, noLink, chosenLink, firstNonzero}
+use Rattle.file_links.specs.Links.{linksOf, goodLink, goodLinks, hasShort, hasName, firstOf, noLink, chosenLink}
+use Rattle.file_links.specs.Steps.{has, firstNonzero}
 use Rattle.file_links.proofs.Tables.{linkAt}
 
 -- ---- the chosen link is a good one
@@ -22,19 +23,19 @@ either-good : (pool : List ℕ) (b : Bool) (l m : Link) → goodLink pool l ≡ 
 either-good pool true l m g h = g
 either-good pool false l m g h = h
 
-pub first-good : (pool : List ℕ) (short : Bool) (ls : List Link) (other : Link) → goodLinks pool ls ≡ true → goodLink pool other ≡ true
-    → goodLink pool (firstOf short ls other) ≡ true
+pub first-good : (pool : List ℕ) (wanted : Link → Bool) (ls : List Link) (other : Link) → goodLinks pool ls ≡ true → goodLink pool other ≡ true
+    → goodLink pool (firstOf wanted ls other) ≡ true
 unfolding goodLinks firstOf
-first-good pool short [] other g h = h
-first-good pool short (l ∷ ls) other g h =
-    either-good pool (has short l) l (firstOf short ls other) (and-left _ _ g) (first-good pool short ls other (and-right (goodLink pool l) _ g) h)
+first-good pool wanted [] other g h = h
+first-good pool wanted (l ∷ ls) other g h =
+    either-good pool (wanted l) l (firstOf wanted ls other) (and-left _ _ g) (first-good pool wanted ls other (and-right (goodLink pool l) _ g) h)
 
 pub no-link-good : (pool : List ℕ) → goodLink pool noLink ≡ true
 unfolding goodLink goodName
 no-link-good pool = rw (le-leb 0 (length pool) (omega arith))
 
 pub chosen-good : (pool : List ℕ) (ls : List Link) → goodLinks pool ls ≡ true → goodLink pool (chosenLink ls) ≡ true
-chosen-good pool ls g = first-good pool true ls (firstOf false ls noLink) g (first-good pool false ls noLink g (no-link-good pool))
+chosen-good pool ls g = first-good pool hasShort ls (firstOf hasName ls noLink) g (first-good pool hasName ls noLink g (no-link-good pool))
 
 -- ---- the first number that is not 0, from index i on
 
@@ -59,6 +60,7 @@ asked true l = l .short
 asked false l = l .length
 
 pub has-asked : (short b : Bool) (l : Link) → short ≡ b → not (eqb (asked b l) 0) ≡ has short l
+unfolding has
 has-asked short true l e = ap (λ (x : Bool). has x l) (sym e)
 has-asked short false l e = ap (λ (x : Bool). has x l) (sym e)
 
@@ -67,12 +69,12 @@ first-step true l ls other found n e = e
 first-step false l ls other found n e = refl
 
 -- it is the one at the first number that is not 0
-first-found : (short : Bool) (ls : List Link) (other : Link) → firstOf short ls other ≡ getD ls (firstNonzero (map (asked short) ls)) other
+first-found : (short : Bool) (ls : List Link) (other : Link) → firstOf (has short) ls other ≡ getD ls (firstNonzero (map (asked short) ls)) other
 unfolding firstOf firstNonzero
 first-found short [] other = refl
 first-found short (l ∷ ls) other =
-    ap (λ (b : Bool). cond b l (firstOf short ls other)) (sym (has-asked short short l refl))
-    ∙ first-step (eqb (asked short l) 0) l ls other (firstOf short ls other) (firstNonzero (map (asked short) ls)) (first-found short ls other)
+    ap (λ (b : Bool). cond b l (firstOf (has short) ls other)) (sym (has-asked short short l refl))
+    ∙ first-step (eqb (asked short l) 0) l ls other (firstOf (has short) ls other) (firstNonzero (map (asked short) ls)) (first-found short ls other)
 
 -- ---- a table that is lent as three runs of numbers
 
@@ -107,24 +109,26 @@ module _ (places lengths shorts : List ℕ) (a : length lengths ≡ length place
   abbrev pub Picked : ℕ → Type 0
   Picked i = getD links i noLink ≡ chosenLink links
 
-  first-at : (short : Bool) (run : List ℕ) (other : Link) → map (asked short) links ≡ run → getD links (firstNonzero run) other ≡ firstOf short links other
+  first-at : (short : Bool) (run : List ℕ) (other : Link) → map (asked short) links ≡ run → getD links (firstNonzero run) other ≡ firstOf (has short) links other
   first-at short run other e = ap (λ (l : List ℕ). getD links (firstNonzero l) other) (sym e) ∙ sym (first-found short links other)
 
   past : (i : ℕ) (other : Link) → length places ≤ i → getD links i other ≡ other
   past i other h = let t : length links ≡ length places = lent places lengths shorts a b .2 in List·getD-eq-default links other (omega (arith, t, h))
 
   pub pick-short : (i short : ℕ) → short ≡ firstNonzero shorts → short < length places → i ≡ short → Picked i
+  unfolding has
   pick-short i short e h q =
-      let other = firstOf false links noLink in
+      let other = firstOf hasName links noLink in
       let k : i ≡ firstNonzero shorts = q ∙ e in
       let j : i < length places = omega arith in
       lent-at places lengths shorts i noLink a b j ∙ sym (lent-at places lengths shorts i other a b j) ∙ ap (λ (x : ℕ). getD links x other) k
       ∙ first-at true shorts other (lent places lengths shorts a b .0)
 
   pub pick-named : (i short named : ℕ) → short ≡ firstNonzero shorts → named ≡ firstNonzero lengths → length places ≤ short → i ≡ named → Picked i
+  unfolding has
   pick-named i short named e d h q =
       let t = lent places lengths shorts a b in
-      let other = firstOf false links noLink in
+      let other = firstOf hasName links noLink in
       ap (λ (x : ℕ). getD links x noLink) (q ∙ d) ∙ first-at false lengths noLink (t .1) ∙ sym (past short other h) ∙ ap (λ (x : ℕ). getD links x other) e
       ∙ first-at true shorts other (t .0)
 

@@ -1,7 +1,7 @@
 -- A file's links: when their table is right, and whose name stands for the file.
-use mathlib.Core.Bool.{Bool, true, false, not, cond, _&&_}
+use mathlib.Core.Bool.{Bool, true, not, cond, _&&_}
 use mathlib.Core.List.{List, [], _∷_}
-use Prim.Native.Nat.{ℕ, suc, _+_}
+use Prim.Native.Nat.{ℕ, _+_}
 use lib.Dec.{leb, eqb}
 use lib.ListN.{length, take, drop}
 use Rattle.usn_record.specs.Layout.{goodName}
@@ -23,15 +23,16 @@ goodLinks pool (l ∷ ls) = goodLink pool l && goodLinks pool ls
 
 -- ---- the name
 
--- a link has a short name, or, where that is not asked for, a name
-abbrev pub has : Bool → Link → Bool
-has true l = not (eqb (l .short) 0)
-has false l = not (eqb (l .length) 0)
+abbrev pub hasShort : Link → Bool
+hasShort l = not (eqb (l .short) 0)
 
--- the first link that has one, or another link
-unfoldable pub firstOf : Bool → List Link → Link → Link
-firstOf short [] other = other
-firstOf short (l ∷ ls) other = cond (has short l) l (firstOf short ls other)
+abbrev pub hasName : Link → Bool
+hasName l = not (eqb (l .length) 0)
+
+-- the first link that is wanted, or another link
+unfoldable pub firstOf : (Link → Bool) → List Link → Link → Link
+firstOf wanted [] other = other
+firstOf wanted (l ∷ ls) other = cond (wanted l) l (firstOf wanted ls other)
 
 -- a link with an empty name
 abbrev pub noLink : Link
@@ -39,7 +40,7 @@ noLink = record { place = 0; length = 0; short = 0 }
 
 -- the first link with a short name; with no such link, the first whose name is not empty; else one with an empty name
 abbrev pub chosenLink : List Link → Link
-chosenLink ls = firstOf true ls (firstOf false ls noLink)
+chosenLink ls = firstOf hasShort ls (firstOf hasName ls noLink)
 
 -- ---- a table that is lent as three runs of numbers
 
@@ -55,8 +56,3 @@ unfoldable pub goodTable : List ℕ → List ℕ → List ℕ → List ℕ → B
 goodTable pool places lengths shorts =
     eqb (length lengths) (length places)
     && (eqb (length shorts) (length places) && goodLinks pool (linksOf places lengths shorts))
-
--- the index of the first number that is not 0, or how many numbers there are
-unfoldable pub firstNonzero : List ℕ → ℕ
-firstNonzero [] = 0
-firstNonzero (x ∷ xs) = cond (eqb x 0) (suc (firstNonzero xs)) 0

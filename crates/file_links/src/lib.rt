@@ -3,7 +3,8 @@
 ghost use mathlib.Core.Path.{_≡_};
 ghost use Prim.Native.Nat.{_≤_};
 ghost use lib.ListN.{length};
-ghost use Rattle.file_links.specs.Links.{noLink, linksOf, goodLink, goodTable, has, chosenLink, firstNonzero};
+ghost use Rattle.file_links.specs.Links.{noLink, linksOf, goodLink, goodTable, chosenLink};
+ghost use Rattle.file_links.specs.Steps.{has, firstNonzero};
 use usn_record::good_name;
 
 // A link: the place and length of its name in a pool, and the length of its short name.

@@ -8,11 +8,10 @@ use Rattle.le.specs.Numbers.{le, encode}
 use Rattle.status.specs.declared.Status.the-variants.{Success, BufferTooSmall}
 use Rattle.status.specs.Reply.{Reply, refuse, give, answer}
 use Rattle.volume.specs.declared.Volume.{Volume}
-use Rattle.usn_record.specs.declared.Version.the-variants.{V2}
 use Rattle.usn_record.specs.Layout.{layout}
 use Rattle.file_record.specs.declared.FileRecord.{FileRecord}
 use Rattle.file_links.specs.Links.{nameAt, linksOf, goodLinks, goodTable, firstOf, chosenLink}
-use Rattle.file_usn.specs.FileUsn.{fileCheck, fileFields, fileAnswer, namedReply, fileReply}
+use Rattle.file_usn.specs.FileUsn.{fileCheck, fileAnswer, namedReply, fileReply}
 
 abbrev pub disk : Volume
 disk = record { usn = 1; regions = 0; reparse = 0; points = 0; journal = 0; state = 0; id = 0; first = 0; last = 0; capacity = 0 }
@@ -26,9 +25,20 @@ pub record Example : Type 0 where
   pub reply : Reply
   pub count : ℕ
 
+-- RecordLength 64, version 2.0, file 5, parent 7, Usn 1024, four times 0, attributes 32, no name at 60
+abbrev pub bytes : List ℕ
+bytes =
+    64 ∷ 0 ∷ 0 ∷ 0 ∷ 2 ∷ 0 ∷ 0 ∷ 0
+    ∷ 5 ∷ 0 ∷ 0 ∷ 0 ∷ 0 ∷ 0 ∷ 0 ∷ 0
+    ∷ 7 ∷ 0 ∷ 0 ∷ 0 ∷ 0 ∷ 0 ∷ 0 ∷ 0
+    ∷ 0 ∷ 4 ∷ 0 ∷ 0 ∷ 0 ∷ 0 ∷ 0 ∷ 0
+    ∷ 0 ∷ 0 ∷ 0 ∷ 0 ∷ 0 ∷ 0 ∷ 0 ∷ 0
+    ∷ 0 ∷ 0 ∷ 0 ∷ 0 ∷ 0 ∷ 0 ∷ 0 ∷ 0
+    ∷ 0 ∷ 0 ∷ 0 ∷ 0 ∷ 32 ∷ 0 ∷ 0 ∷ 0
+    ∷ 0 ∷ 0 ∷ 60 ∷ 0 ∷ 0 ∷ 0 ∷ 0 ∷ 0 ∷ []
+
 abbrev pub examples : List Example
-examples =
-    record { room = 64; reply = give Success (layout V2 (fileFields file 7) []); count = 64 } ∷ record { room = 63; reply = refuse BufferTooSmall; count = 0 } ∷ []
+examples = record { room = 64; reply = give Success bytes; count = 64 } ∷ record { room = 63; reply = refuse BufferTooSmall; count = 0 } ∷ []
 
 -- a file with parent 7 and no links, read with no input
 abbrev replyIn : ℕ → Reply

@@ -17,10 +17,10 @@ use Rattle.volume.specs.State.{supported}
 use Rattle.usn_record.specs.declared.Version.{Version}
 use Rattle.usn_record.specs.declared.Choice.{Choice}
 use Rattle.usn_record.specs.declared.Choice.the-variants.{Use, Refuse}
-use Rattle.usn_record.specs.Version.{chosen}
+use Rattle.usn_record.specs.Version.{chosen, choiceResult, versionResult}
 use Rattle.usn_record.specs.Layout.{nameOffset}
 use Rattle.status.proofs.Checking.{else-left, else-right, unless-true}
-use Rattle.usn_record.proofs.Versions.{told-refuse, told-use, refused-by, used-by}
+use Rattle.usn_record.proofs.Versions.{told-choice, told-refuse, told-use, refused-by, used-by}
 use Rattle.file_record.specs.declared.FileRecord.{FileRecord}
 use Rattle.file_usn.specs.FileUsn.{fileVersions, fileVersion, fileCheck}
 
@@ -53,7 +53,10 @@ module _ (v : Volume) (f : FileRecord) (table : Bool) (input : List ℕ) (room :
         unfolding fileCheck
         sound = rw (ne-eqb _ _ s, lt-ltb _ _ u, not-false table t)
 
-        module _ (choice : Choice) (c : choice ≡ chosen (fileVersions input) (fileVersion input)) where
+        module _ (choice : Choice) (q : choiceResult choice ≡ versionResult (fileVersions input) (fileVersion input)) where
+          c : choice ≡ chosen (fileVersions input) (fileVersion input)
+          c = told-choice choice (fileVersions input) (fileVersion input) q
+
           pub judge-versions : (x : Status) → choice ≡ Refuse x → Judges (Refuse x)
           judge-versions x e =
               let k : fileVersions input ≡ some x = told-refuse (fileVersions input) (fileVersion input) x (sym e ∙ c) in

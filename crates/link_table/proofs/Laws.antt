@@ -11,7 +11,8 @@ use lib.Dec.{T}
 use lib.ListN.{length, drop, getD, drop-of-length-le}
 use lib.Seq.{drop-cons}
 use Rattle.file_links.specs.declared.Link.{Link}
-use Rattle.file_links.specs.Links.{noLink, has, firstOf, chosenLink, goodLink, goodLinks}
+use Rattle.file_links.specs.Links.{noLink, firstOf, chosenLink, goodLink, goodLinks}
+use Rattle.file_links.specs.Steps.{has}
 
 -- the link at an index
 abbrev pub linkAt : List Link → ℕ → Link
@@ -42,7 +43,7 @@ said-no false h = refl
 
 module _ (short : Bool) (ls : List Link) (other : Link) where
   abbrev pub search : List Link → Link
-  search part = firstOf short part other
+  search part = firstOf (has short) part other
 
   -- the search may stop at i
   abbrev pub Stops : ℕ → Type 0
@@ -65,8 +66,9 @@ module _ (short : Bool) (ls : List Link) (other : Link) where
       goes-on y = sym (one false (said-no r y)) ∙ rest-some search ls i p h
 
 -- the search for a short name, where no name was found before but an empty one
-pub chosen : (ls : List Link) (a b r : Link) → a ≡ noLink → b ≡ firstOf false ls a → r ≡ firstOf true ls b → r ≡ chosenLink ls
-chosen ls a b r e f g = g ∙ ap (λ (l : Link). firstOf true ls l) (f ∙ ap (λ (l : Link). firstOf false ls l) e)
+pub chosen : (ls : List Link) (a b r : Link) → a ≡ noLink → b ≡ firstOf (has false) ls a → r ≡ firstOf (has true) ls b → r ≡ chosenLink ls
+unfolding has
+chosen ls a b r e f g = g ∙ ap (λ (l : Link). firstOf (has true) ls l) (f ∙ ap (λ (l : Link). firstOf (has false) ls l) e)
 
 -- ---- the judgement
 

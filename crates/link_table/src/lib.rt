@@ -2,6 +2,7 @@
 // `file_links`, over a link by value.
 ghost use mathlib.Core.Path.{_≡_};
 ghost use Rattle.file_links.specs.Links.{goodLinks, firstOf, chosenLink};
+ghost use Rattle.file_links.specs.Steps.{has};
 use file_links::Link;
 use file_links::good_link;
 use file_links::has_name;
@@ -24,7 +25,7 @@ pub fn good_links(pool: &[u8], links: &[Link]) -> bool
 
 // The first link that has a short name, where that is asked for, else that has a name; or another link.
 pub fn first_link(links: &[Link], short: bool, other: Link) -> Link
-    ensures { λ r. ⌜ r ≡ firstOf short (now (links .entry)) other ⌝ }
+    ensures { λ r. ⌜ r ≡ firstOf (has short) (now (links .entry)) other ⌝ }
 {
     let mut i = 0;
     let at = loop {

@@ -6,7 +6,7 @@ use Prim.Native.Nat.{ℕ}
 use lib.ListN.{replicate}
 use Rattle.le.specs.Numbers.{le, encode}
 use Rattle.status.specs.declared.Status.the-variants.{Success, BufferTooSmall, NotAReparsePoint}
-use Rattle.status.specs.Reply.{Reply, refuse, give}
+use Rattle.status.specs.Reply.{Reply, refuse, give, answer}
 use Rattle.volume.specs.declared.Volume.{Volume}
 use Rattle.file_record.specs.declared.FileRecord.{FileRecord}
 use Rattle.reparse_point.specs.Reparse.{mostData, headerLength, reparseHeader, reparseCheck, reparseBytes, reparseReply}
@@ -20,24 +20,28 @@ file tag = record { id = 1; attributes = 0x400; usn = 0; eof = 0; valid = 0; tag
 abbrev pub twenty : List ℕ
 twenty = 1 ∷ 2 ∷ 3 ∷ 4 ∷ 5 ∷ 6 ∷ 7 ∷ 8 ∷ 9 ∷ 10 ∷ 11 ∷ 12 ∷ 13 ∷ 14 ∷ 15 ∷ 16 ∷ 17 ∷ 18 ∷ 19 ∷ 20 ∷ []
 
--- a tag, its data, the room, and the reply
+-- a tag, its data, the room, the reply, and how many bytes it counts
 pub record Example : Type 0 where
   pub tag : ℕ
   pub bytes : List ℕ
   pub room : ℕ
   pub reply : Reply
+  pub count : ℕ
 
-abbrev pub row : ℕ → List ℕ → ℕ → Reply → Example
-row tag bytes room reply = record { tag = tag; bytes = bytes; room = room; reply = reply }
+abbrev pub row : ℕ → List ℕ → ℕ → Reply → ℕ → Example
+row tag bytes room reply count = record { tag = tag; bytes = bytes; room = room; reply = reply; count = count }
 
 abbrev pub examples : List Example
 examples =
-    row 0xA000000C twenty 7 (refuse BufferTooSmall)
-    ∷ row 0xA000000C twenty 18 (give Success (0x0C ∷ 0 ∷ 0 ∷ 0xA0 ∷ 20 ∷ 0 ∷ 0 ∷ 0 ∷ 1 ∷ 2 ∷ 3 ∷ 4 ∷ 5 ∷ 6 ∷ 7 ∷ 8 ∷ 9 ∷ 10 ∷ []))
-    ∷ row 0 [] 18 (refuse NotAReparsePoint)
+    row 0xA000000C twenty 7 (refuse BufferTooSmall) 0
+    ∷ row 0xA000000C twenty 18 (give Success (0x0C ∷ 0 ∷ 0 ∷ 0xA0 ∷ 20 ∷ 0 ∷ 0 ∷ 0 ∷ 1 ∷ 2 ∷ 3 ∷ 4 ∷ 5 ∷ 6 ∷ 7 ∷ 8 ∷ 9 ∷ 10 ∷ [])) 18
+    ∷ row 0 [] 18 (refuse NotAReparsePoint) 0
     ∷ []
 
+abbrev replyTo : Example → Reply
+replyTo e = reparseReply volume (file (e .tag)) (e .bytes) (e .room)
+
 -- each call gives its reply
-pub reparse-right : map (λ (e : Example). reparseReply volume (file (e .tag)) (e .bytes) (e .room)) examples ≡ map (λ (e : Example). e .reply) examples
+pub reparse-right : map (λ (e : Example). row (e .tag) (e .bytes) (e .room) (replyTo e) (answer (replyTo e) .count)) examples ≡ examples
 unfolding le encode mostData headerLength reparseHeader reparseCheck reparseBytes reparseReply
 reparse-right = refl

@@ -4,7 +4,7 @@ use mathlib.Core.Path.{_≡_, sym, _∙_}
 use Prim.Native.Nat.{_+_, _-_, _≤_}
 use native.Mathlib.Omega.{arith}
 use lib.ListN.{length, drop}
-use Rattle.file_links.specs.Links.{firstNonzero}
+use Rattle.file_links.specs.Steps.{firstNonzero}
 use Rattle.file_links.proofs.Choosing.{first-more, first-here, first-end}
 use Rattle.file_links.proofs.first_nonzero.Statement.{statement}
 use Rattle.file_links.proofs.first_nonzero.Tie as tie

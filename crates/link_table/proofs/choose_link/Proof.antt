@@ -32,6 +32,7 @@ use denote.Triple.Spec.{Meets, tripleOf}
 use denote.Triple.Statement.{Contract, Triple}
 use Rattle.file_links.specs.declared.Link.{Link}
 use Rattle.file_links.specs.Links.{noLink, firstOf, chosenLink}
+use Rattle.file_links.specs.Steps.{has}
 use Rattle.file_links.proofs.Link as T
 use Rattle.file_links.proofs.Link.Laws as T′
 use Rattle.file_links.proofs.no_link as no-link
@@ -108,12 +109,12 @@ module _ {M : Type 1} (𝓤 : URA M) (H : Heap 𝓤) (A : Atoms 𝓤) (W : Given
         -- a copy of the slice goes to the search for a name
         twofold ! κ T.the-row x (s ∷ []) $ move ! (2 ∷ 0 ∷ []) $ use2 W (raw (First 𝓤 H A at-mem run .pre (asked _ r₀))) (asks _ r₀ is₀) $
         calls-at ! fm (First 𝓤 H A at-mem run) first-met (asked _ r₀) (and-then ! (var ! 2 refl) (and-then ! (flag ! refl) (and-then ! (var ! 2 refl) (no-more !)))) (λ w₁.
-        answers ! first-link.ended (first-link.clauses 𝓤 H A at-mem run) (asked _ r₀) w₁ mach (LL.tells T.the-type T′.the-laws) (λ r. r ≡ firstOf _ ys r₀) (λ r ws. id⊢ 𝓤 _) (λ r₁ e₁ is₁.
+        answers ! first-link.ended (first-link.clauses 𝓤 H A at-mem run) (asked _ r₀) w₁ mach (LL.tells T.the-type T′.the-laws) (λ r. r ≡ firstOf (has _) ys r₀) (λ r ws. id⊢ 𝓤 _) (λ r₁ e₁ is₁.
         token ! κ q $ land ! (from ! (stop !)) (init ! 4 refl (typed-link 𝓤 H A W r₁ is₁)) $
         -- the slice goes to the search for a short name
         use2 W (raw (First 𝓤 H A at-mem run .pre (asked _ r₁))) (asks _ r₁ is₁) $
         calls-at ! fm (First 𝓤 H A at-mem run) first-met (asked _ r₁) (and-then ! (var ! 1 refl) (and-then ! (flag ! refl) (and-then ! (var ! 1 refl) (no-more !)))) (λ w₂.
-        answers ! first-link.ended (first-link.clauses 𝓤 H A at-mem run) (asked _ r₁) w₂ mach (LL.tells T.the-type T′.the-laws) (λ r. r ≡ firstOf _ ys r₁) (λ r ws. id⊢ 𝓤 _) (λ r₂ e₂ is₂.
+        answers ! first-link.ended (first-link.clauses 𝓤 H A at-mem run) (asked _ r₁) w₂ mach (LL.tells T.the-type T′.the-laws) (λ r. r ≡ firstOf (has _) ys r₁) (λ r ws. id⊢ 𝓤 _) (λ r₂ e₂ is₂.
         token ! κ q $ land ! (from ! (stop !)) (init ! 7 refl (typed-link 𝓤 H A W r₂ is₂)) $
         returns ! (look ! 7 refl) $ frees-all ! (envOf 𝓤 H (code.function .locals) ls) (just _ ∷ just _ ∷ just _ ∷ just _ ∷ []) $ by ! (exits r₂ (chosen ys r₀ r₁ r₂ e₀ e₁ e₂) is₂))))))))
 

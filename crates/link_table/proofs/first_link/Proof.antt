@@ -35,7 +35,8 @@ use denote.Triple.Entry.{onEntry}
 use denote.Triple.Spec.{Meets, tripleOf}
 use denote.Triple.Statement.{Contract, Triple}
 use Rattle.file_links.specs.declared.Link.{Link}
-use Rattle.file_links.specs.Links.{has, firstOf}
+use Rattle.file_links.specs.Links.{firstOf}
+use Rattle.file_links.specs.Steps.{has}
 use Rattle.file_links.proofs.Link as T
 use Rattle.file_links.proofs.Link.Laws as T′
 use Rattle.file_links.proofs.has_name as has-name
@@ -69,11 +70,11 @@ module _ {M : Type 1} (𝓤 : URA M) (H : Heap 𝓤) (A : Atoms 𝓤) (W : Given
   abbrev Post : Val → SProp 𝓤
   Post = Walked 𝓤 H A W entry.ended (entry.clauses 𝓤 H A at-mem run) .post (((κ, tt), (q, tt), tt, x, at), tt)
 
-  exits : (r : Link) → r ≡ firstOf short ys other → IsLink r → ent 𝓤 (⋆ 𝓤 H A (‵ (flft κ q) ∷ [])) (Post (mach r))
+  exits : (r : Link) → r ≡ firstOf (has short) ys other → IsLink r → ent 𝓤 (⋆ 𝓤 H A (‵ (flft κ q) ∷ [])) (Post (mach r))
   exits r e is =
       qed W (‵ (flft κ q) ∷ []) ∵ nothing ! $ move ! (1 ∷ 0 ∷ []) $ join ! $
       by ! (ends 𝓤 H A W entry.ended (entry.clauses 𝓤 H A at-mem run) (((κ, tt), (q, tt), tt, x, at), tt) (mach r) r (tt, (tt, (tt, tt)))
-      (LL.makes T.the-type T′.the-plain 𝓤 H A r _ is) (factI 𝓤 (r ≡ firstOf short ys other) (emp 𝓤) e) ((λ κs x f. refl), ((λ κs x f. refl), ((λ κs x f. refl), tt))))
+      (LL.makes T.the-type T′.the-plain 𝓤 H A r _ is) (factI 𝓤 (r ≡ firstOf (has short) ys other) (emp 𝓤) e) ((λ κs x f. refl), ((λ κs x f. refl), ((λ κs x f. refl), tt))))
 
   -- the search, from a part of the table
   abbrev search : List Link → Link

@@ -1,0 +1,76 @@
+-- A refusal reports no bytes and changes nothing, whatever control or call it comes from.
+use mathlib.Core.Path.{_≡_}
+use mathlib.Core.Bool.{Bool, true, not}
+use mathlib.Core.List.{List}
+use Prim.Native.Nat.{ℕ}
+use lib.Dec.{eqb}
+use Rattle.status.specs.declared.Status.{Status}
+use Rattle.status.specs.declared.Status.the-variants.{Success}
+use Rattle.status.specs.Number.{number}
+use Rattle.status.specs.Reply.{Reply, answer, after}
+use Rattle.usn_record.specs.declared.Version.{Version}
+use Rattle.usn_record.specs.declared.Fields.{Fields}
+use Rattle.volume.specs.declared.Volume.{Volume}
+use Rattle.file_record.specs.declared.FileRecord.{FileRecord}
+use Rattle.file_links.specs.declared.Link.{Link}
+use Rattle.record_writer.specs.Write.{writeReply}
+use Rattle.usn_listing.specs.Listing.{listReply}
+use Rattle.journal_read.specs.Read.{readReply}
+use Rattle.file_usn.specs.FileUsn.{fileReply, tableReply}
+use Rattle.file_regions.specs.Regions.{regionsReply}
+use Rattle.reparse_point.specs.Reparse.{reparseReply}
+use Rattle.journal_post.specs.Post.{postUsn}
+use Rattle.history.specs.Calls.{Journal, Call, create, post, read, delete, finish, outcome, ringAfter}
+
+-- all statuses but SUCCESS
+abbrev pub isRefusal : Status → Bool
+isRefusal x = not (eqb (number x) (number Success))
+
+-- ---- what replies with bytes
+
+-- a call, with its arguments but for its output
+pub data Control : Type 0 where
+  -- volume record, ring, input
+  readJournal : Volume → List ℕ → List ℕ → Control
+  -- volume record, file record, parent, pool of names, links, input
+  readFile : Volume → FileRecord → ℕ → List ℕ → List Link → List ℕ → Control
+  -- the same with the links as three runs of numbers
+  readFileTable : Volume → FileRecord → ℕ → List ℕ → List ℕ → List ℕ → List ℕ → List ℕ → Control
+  -- volume record, file record, input
+  queryRegions : Volume → FileRecord → List ℕ → Control
+  -- volume record, file record, reparse data
+  getReparsePoint : Volume → FileRecord → List ℕ → Control
+  -- a reply of the journal
+  listRecords : List ℕ → Control
+  -- version, fields, name
+  writeRecord : Version → Fields → List ℕ → Control
+
+-- its reply into so much room, by the definition that its contract cites
+abbrev pub replyOf : Control → ℕ → Reply
+replyOf (readJournal v ring input) room = readReply v ring input room
+replyOf (readFile v f parent pool links input) room = fileReply v f parent pool links input room
+replyOf (readFileTable v f parent pool places lengths shorts input) room = tableReply v f parent pool places lengths shorts input room
+replyOf (queryRegions v f input) room = regionsReply v f input room
+replyOf (getReparsePoint v f bytes) room = reparseReply v f bytes room
+replyOf (listRecords s) room = listReply s room
+replyOf (writeRecord v f name) room = writeReply v f name room
+
+-- ---- what changes records
+
+-- the file's Usn after a call on the journal: only a post writes it
+abbrev pub usnAfter : Journal → Call → ℕ → ℕ
+usnAfter j (create id) usn = usn
+usnAfter j (post c name) usn = postUsn (j .volume) (j .ring) c name usn
+usnAfter j (read a) usn = usn
+usnAfter j (delete id) usn = usn
+usnAfter j finish usn = usn
+
+-- ---- the promise
+
+pub record Refusals : Type 0 where
+  -- a control that refuses reports no bytes and leaves its output
+  pub controls : (c : Control) (room : ℕ) → isRefusal (answer (replyOf c room) .status) ≡ true
+      → (answer (replyOf c room) .count ≡ 0) × ((out : List ℕ) → after (replyOf c room) out ≡ out)
+  -- a call that refuses leaves the volume record, the ring and the file's Usn
+  pub calls : (j : Journal) (c : Call) (usn : ℕ) → isRefusal (outcome j c .status) ≡ true
+      → (outcome j c .volume ≡ j .volume) × (ringAfter j c ≡ j .ring) × (usnAfter j c usn ≡ usn)
