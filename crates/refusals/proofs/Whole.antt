@@ -1,6 +1,6 @@
 -- Every refusal reports no bytes and changes nothing.
 -- Assumes nothing.
-use mathlib.Core.Path.{_≡_, refl, sym, _∙_}
+use mathlib.Core.Path.{_≡_, refl, sym, ap, ap₂, _∙_}
 use mathlib.Core.Bool.{Bool, true, false, cond, _&&_}
 use mathlib.Core.List.{List, [], _++_}
 use mathlib.Core.Option.{Option, none, some}
@@ -24,7 +24,7 @@ use Rattle.journal.specs.Kept.{sound, kept}
 use Rattle.journal.specs.Boundary.{recordsAfter}
 use Rattle.journal_post.specs.declared.Verdict.{Verdict}
 use Rattle.journal_post.specs.declared.Verdict.the-variants.{Skip, Reject, Accept}
-use Rattle.journal_post.specs.Post.{verdict, statusOf, leaves, endOf, postedVolume, postedRing}
+use Rattle.journal_post.specs.Post.{verdict, verdictStatus, leaves, endOf, postedVolume, postedRing}
 use Rattle.journal_page.specs.declared.Filter.{Filter}
 use Rattle.journal_page.specs.Page.{Page, empty, pageOf, pageBytes, pageReply}
 use Rattle.journal_read.specs.Input.{startOf, filterOf, versionOf}
@@ -36,7 +36,7 @@ use Rattle.file_regions.specs.declared.Asked.{Asked}
 use Rattle.file_regions.specs.declared.Region.{Region}
 use Rattle.file_regions.specs.Regions.{askedOf, regionsCheck, regionsOf, isOutside, regionsHeader, listBytes, answerRegions, regionsAnswer, regionsReply}
 use Rattle.reparse_point.specs.Reparse.{reparseCheck, reparseBytes, reparseReply}
-use Rattle.history.specs.Calls.{Journal, Call, create, post, read, delete, finish, outcome, ringAfter}
+use Rattle.history.specs.Calls.{Posting, Journal, Call, create, post, read, delete, finish, statusOf, next}
 use Rattle.refusals.specs.Refusal.{isRefusal, Control, readJournal, readFile, readFileTable, queryRegions, getReparsePoint, listRecords, writeRecord, replyOf, usnAfter, Refusals}
 
 refutes : {A : Type 0} (b : Bool) → b ≡ false → b ≡ true → A
@@ -117,21 +117,27 @@ performed-refusal : (k : Option Status) (old new : Volume) → isRefusal (perfor
 performed-refusal none old new h = refutes false refl h
 performed-refusal (some x) old new h = refl
 
-posted-refusal : {A : Type 0} (d : Verdict) (old new : A) → isRefusal (statusOf d) ≡ true → leaves d old new ≡ old
+posted-refusal : {A : Type 0} (d : Verdict) (old new : A) → isRefusal (verdictStatus d) ≡ true → leaves d old new ≡ old
 posted-refusal Skip old new h = refl
 posted-refusal (Reject x) old new h = refl
 posted-refusal Accept old new h = refutes false refl h
 
-call-refusal : (j : Journal) (c : Call) (usn : ℕ) → isRefusal (outcome j c .status) ≡ true
-    → (outcome j c .volume ≡ j .volume) × (ringAfter j c ≡ j .ring) × (usnAfter j c usn ≡ usn)
-call-refusal j (create id) usn h = let v = j .volume in (performed-refusal (createCheck v id) v (created v id) h, refl, refl)
-call-refusal j (post c name) usn h =
+-- a call that writes no ring
+with-ring : (j : Journal) {v : Volume} → v ≡ j .volume → _≡_ {A = Journal} (record { volume = v; ring = j .ring }) j
+with-ring j e = ap (λ (v : Volume). record { volume = v; ring = j .ring }) e
+
+call-refusal : (j : Journal) (c : Call) (usn : ℕ) → isRefusal (statusOf j c) ≡ true → (next j c ≡ j) × (usnAfter j c usn ≡ usn)
+call-refusal j (create id) usn h = let v = j .volume in (with-ring j (performed-refusal (createCheck v id) v (created v id) h), refl)
+call-refusal j (post p) usn h =
     let v = j .volume in
-    let d = verdict v (j .ring) c name in
-    (posted-refusal d v (postedVolume v (j .ring) name) h, posted-refusal d (j .ring) (postedRing v (j .ring) c name) h, posted-refusal d usn (endOf v name) h)
-call-refusal j (read a) usn h = (refl, refl, refl)
-call-refusal j (delete id) usn h = let v = j .volume in (performed-refusal (deleteCheck v id) v (inState v deleting) h, refl, refl)
-call-refusal j finish usn h = let v = j .volume in (performed-refusal (finishCheck v) v (inState v idle) h, refl, refl)
+    let d = verdict v (j .ring) (p .change) (p .name) in (
+      ap₂ (λ (w : Volume) (ring : List ℕ). record { volume = w; ring = ring }) (posted-refusal d v (postedVolume v (j .ring) (p .name)) h)
+          (posted-refusal d (j .ring) (postedRing v (j .ring) (p .change) (p .name)) h),
+      posted-refusal d usn (endOf v (p .name)) h,
+    )
+call-refusal j (read a) usn h = (refl, refl)
+call-refusal j (delete id) usn h = let v = j .volume in (with-ring j (performed-refusal (deleteCheck v id) v (inState v deleting) h), refl)
+call-refusal j finish usn h = let v = j .volume in (with-ring j (performed-refusal (finishCheck v) v (inState v idle) h), refl)
 
 pub refusals : Refusals
 refusals = record { controls = λ c room h. plain-refusal (replyOf c room) (plain-control c room) h; calls = call-refusal }

@@ -20,7 +20,7 @@ use Rattle.file_usn.specs.FileUsn.{fileReply, tableReply}
 use Rattle.file_regions.specs.Regions.{regionsReply}
 use Rattle.reparse_point.specs.Reparse.{reparseReply}
 use Rattle.journal_post.specs.Post.{postUsn}
-use Rattle.history.specs.Calls.{Journal, Call, create, post, read, delete, finish, outcome, ringAfter}
+use Rattle.history.specs.Calls.{Journal, Call, create, post, read, delete, finish, statusOf, next}
 
 -- all statuses but SUCCESS
 abbrev pub isRefusal : Status → Bool
@@ -60,7 +60,7 @@ replyOf (writeRecord v f name) room = writeReply v f name room
 -- the file's Usn after a call on the journal: only a post writes it
 abbrev pub usnAfter : Journal → Call → ℕ → ℕ
 usnAfter j (create id) usn = usn
-usnAfter j (post c name) usn = postUsn (j .volume) (j .ring) c name usn
+usnAfter j (post p) usn = postUsn (j .volume) (j .ring) (p .change) (p .name) usn
 usnAfter j (read a) usn = usn
 usnAfter j (delete id) usn = usn
 usnAfter j finish usn = usn
@@ -72,5 +72,4 @@ pub record Refusals : Type 0 where
   pub controls : (c : Control) (room : ℕ) → isRefusal (answer (replyOf c room) .status) ≡ true
       → (answer (replyOf c room) .count ≡ 0) × ((out : List ℕ) → after (replyOf c room) out ≡ out)
   -- a call that refuses leaves the volume record, the ring and the file's Usn
-  pub calls : (j : Journal) (c : Call) (usn : ℕ) → isRefusal (outcome j c .status) ≡ true
-      → (outcome j c .volume ≡ j .volume) × (ringAfter j c ≡ j .ring) × (usnAfter j c usn ≡ usn)
+  pub calls : (j : Journal) (c : Call) (usn : ℕ) → isRefusal (statusOf j c) ≡ true → (next j c ≡ j) × (usnAfter j c usn ≡ usn)
