@@ -157,7 +157,7 @@ uint32_t usn_post(usn_volume *volume, uint8_t *ring, size_t ring_size, usn_chang
  * INVALID_DEVICE_REQUEST without support; JOURNAL_DELETE_IN_PROGRESS; JOURNAL_NOT_ACTIVE; INVALID_PARAMETER below 40 bytes of
  * input; BUFFER_TOO_SMALL below 8 bytes of output; INVALID_PARAMETER for the versions, then for the id; FILE_CORRUPT_ERROR for a
  * ring that is not sound; JOURNAL_ENTRY_DELETED for a start before the first position; INVALID_PARAMETER for one past LastUsn or
- * off a record's edge; BUFFER_TOO_SMALL if the first selected record has no room.
+ * off a record's boundary; BUFFER_TOO_SMALL if the first selected record has no room.
  */
 usn_answer usn_read_journal(usn_volume volume, const uint8_t *ring, size_t ring_size,
                             const uint8_t *input, size_t input_size, uint8_t *output, size_t output_size);

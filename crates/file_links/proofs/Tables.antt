@@ -49,8 +49,8 @@ linkAt places lengths shorts i = record { place = getD places i 0; length = getD
 
 module _ (pool places lengths shorts : List ℕ) where
   -- the judgement of the links from index i on
-  abbrev pub judged : ℕ → Bool
-  judged i = goodLinks pool (linksOf (drop i places) (drop i lengths) (drop i shorts))
+  abbrev pub goodFrom : ℕ → Bool
+  goodFrom i = goodLinks pool (linksOf (drop i places) (drop i lengths) (drop i shorts))
 
   pub lengths-differ : (length lengths ≡ length places → ⊥) → false ≡ goodTable pool places lengths shorts
   unfolding goodTable
@@ -61,24 +61,24 @@ module _ (pool places lengths shorts : List ℕ) where
   shorts-differ a h = rw (eq-eqb _ _ a, ne-eqb _ _ h)
 
   module _ (a : length lengths ≡ length places) (b : length shorts ≡ length places) where
-    pub judged-start : judged 0 ≡ goodTable pool places lengths shorts
+    pub good-from-start : goodFrom 0 ≡ goodTable pool places lengths shorts
     unfolding goodTable
-    judged-start = rw (eq-eqb _ _ a, eq-eqb _ _ b)
+    good-from-start = rw (eq-eqb _ _ a, eq-eqb _ _ b)
 
     module _ (i : ℕ) (h : i < length places) (r : Bool) (e : r ≡ goodLink pool (linkAt places lengths shorts i)) where
-      opened : judged i ≡ r && judged (i + 1)
+      opened : goodFrom i ≡ r && goodFrom (i + 1)
       unfolding goodLinks linksOf goodLink
       opened = rw (add-one, e, drop-cons places i 0 h, drop-cons lengths i 0 (omega (arith, a)), drop-cons shorts i 0 (omega (arith, b)))
 
-      pub judged-good : not r ≡ false → judged i ≡ goodTable pool places lengths shorts → judged (i + 1) ≡ goodTable pool places lengths shorts
-      judged-good t v = let k : r ≡ true = not-false r t in sym (opened ∙ ap (λ (x : Bool). x && judged (i + 1)) k) ∙ v
+      pub good-from-good : not r ≡ false → goodFrom i ≡ goodTable pool places lengths shorts → goodFrom (i + 1) ≡ goodTable pool places lengths shorts
+      good-from-good t v = let k : r ≡ true = not-false r t in sym (opened ∙ ap (λ (x : Bool). x && goodFrom (i + 1)) k) ∙ v
 
-      pub judged-bad : not r ≡ true → judged i ≡ goodTable pool places lengths shorts → false ≡ goodTable pool places lengths shorts
-      judged-bad t v = let k : r ≡ false = not-true r t in sym (opened ∙ ap (λ (x : Bool). x && judged (i + 1)) k) ∙ v
+      pub good-from-bad : not r ≡ true → goodFrom i ≡ goodTable pool places lengths shorts → false ≡ goodTable pool places lengths shorts
+      good-from-bad t v = let k : r ≡ false = not-true r t in sym (opened ∙ ap (λ (x : Bool). x && goodFrom (i + 1)) k) ∙ v
 
-  pub judged-end : (i : ℕ) → length places ≤ i → judged i ≡ goodTable pool places lengths shorts → true ≡ goodTable pool places lengths shorts
+  pub good-from-end : (i : ℕ) → length places ≤ i → goodFrom i ≡ goodTable pool places lengths shorts → true ≡ goodTable pool places lengths shorts
   unfolding goodLinks linksOf
-  judged-end i h v = sym (ap (λ (x : List ℕ). goodLinks pool (linksOf x (drop i lengths) (drop i shorts))) (drop-of-length-le places h)) ∙ v
+  good-from-end i h v = sym (ap (λ (x : List ℕ). goodLinks pool (linksOf x (drop i lengths) (drop i shorts))) (drop-of-length-le places h)) ∙ v
 
   -- what a good table tells
   pub table-told : goodTable pool places lengths shorts ≡ true

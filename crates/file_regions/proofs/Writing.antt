@@ -22,7 +22,7 @@ use Rattle.volume.specs.declared.Volume.{Volume}
 use Rattle.file_record.specs.declared.FileRecord.{FileRecord}
 use Rattle.file_regions.specs.declared.Asked.{Asked}
 use Rattle.file_regions.specs.declared.Region.{Region}
-use Rattle.file_regions.specs.Regions.{askedOf, regionsCheck, isOutside, firstRegion, secondDue, secondRegion, header, regionBytes, listBytes, answerRegions, regionsAnswer, regionsReply}
+use Rattle.file_regions.specs.Regions.{askedOf, regionsCheck, isOutside, firstRegion, secondDue, secondRegion, regionsHeader, regionBytes, listBytes, answerRegions, regionsAnswer, regionsReply}
 use Rattle.status.proofs.Checking.{told-refused, told-passed}
 
 -- ---- the bytes
@@ -31,7 +31,7 @@ use Rattle.status.proofs.Checking.{told-refused, told-passed}
 abbrev two : ℕ → ℕ → ℕ → List ℕ
 two w a b = encode (w ∷ w ∷ []) (a ∷ b ∷ [])
 
-pub length-header : (n : ℕ) → length (header n) ≡ 16
+pub length-header : (n : ℕ) → length (regionsHeader n) ≡ 16
 unfolding encode
 length-header n = simp (length-append, length-le)
 
@@ -40,7 +40,7 @@ unfolding encode
 length-region r = simp (length-append, length-le)
 
 pub header-put : (n : ℕ) (o l1 l2 : List ℕ) → 16 ≤ length o → l1 ≡ two 4 0 n ++ drop 8 o → l2 ≡ two 4 n 0 ++ drop 8 (lent 8 l1)
-    → back 8 l1 l2 ≡ header n ++ drop 16 o
+    → back 8 l1 l2 ≡ regionsHeader n ++ drop 16 o
 unfolding encode
 header-put n o l1 l2 h q1 q2 =
     put-next (put-first 8 (two 4 0 n) o l1 (length-two 4 0 n) q1) 8 (two 4 n 0) l2 (length-two 4 n 0) h q2 .whole ∙ simp (append-assoc, append-nil)
@@ -53,16 +53,16 @@ region-put r o l1 l2 h q1 q2 =
     ∙ simp (append-assoc, append-nil)
 
 -- a header and a region behind it
-pub one-put : (n : ℕ) (r : Region) (o l1 l2 : List ℕ) → 40 ≤ length o → l1 ≡ header n ++ drop 16 o → l2 ≡ regionBytes r ++ drop 24 (lent 16 l1)
-    → back 16 l1 l2 ≡ (header n ++ regionBytes r) ++ drop 40 o
-one-put n r o l1 l2 h q1 q2 = put-next (put-first 16 (header n) o l1 (length-header n) q1) 24 (regionBytes r) l2 (length-region r) h q2 .whole
+pub one-put : (n : ℕ) (r : Region) (o l1 l2 : List ℕ) → 40 ≤ length o → l1 ≡ regionsHeader n ++ drop 16 o → l2 ≡ regionBytes r ++ drop 24 (lent 16 l1)
+    → back 16 l1 l2 ≡ (regionsHeader n ++ regionBytes r) ++ drop 40 o
+one-put n r o l1 l2 h q1 q2 = put-next (put-first 16 (regionsHeader n) o l1 (length-header n) q1) 24 (regionBytes r) l2 (length-region r) h q2 .whole
 
 -- and one more
-pub two-put : (n : ℕ) (r s : Region) (o l1 l2 l3 : List ℕ) → 64 ≤ length o → l1 ≡ header n ++ drop 16 o → l2 ≡ regionBytes r ++ drop 24 (lent 16 l1)
-    → l3 ≡ regionBytes s ++ drop 24 (lent 40 (back 16 l1 l2)) → back 40 (back 16 l1 l2) l3 ≡ (header n ++ (regionBytes r ++ regionBytes s)) ++ drop 64 o
+pub two-put : (n : ℕ) (r s : Region) (o l1 l2 l3 : List ℕ) → 64 ≤ length o → l1 ≡ regionsHeader n ++ drop 16 o → l2 ≡ regionBytes r ++ drop 24 (lent 16 l1)
+    → l3 ≡ regionBytes s ++ drop 24 (lent 40 (back 16 l1 l2)) → back 40 (back 16 l1 l2) l3 ≡ (regionsHeader n ++ (regionBytes r ++ regionBytes s)) ++ drop 64 o
 two-put n r s o l1 l2 l3 h q1 q2 q3 =
-    let p = put-next (put-first 16 (header n) o l1 (length-header n) q1) 24 (regionBytes r) l2 (length-region r) (omega arith) q2 in
-    put-next p 24 (regionBytes s) l3 (length-region s) h q3 .whole ∙ ap (λ (l : List ℕ). l ++ drop 64 o) (append-assoc (header n) (regionBytes r) (regionBytes s))
+    let p = put-next (put-first 16 (regionsHeader n) o l1 (length-header n) q1) 24 (regionBytes r) l2 (length-region r) (omega arith) q2 in
+    put-next p 24 (regionBytes s) l3 (length-region s) h q3 .whole ∙ ap (λ (l : List ℕ). l ++ drop 64 o) (append-assoc (regionsHeader n) (regionBytes r) (regionBytes s))
 
 -- ---- behind the checks
 
@@ -87,11 +87,11 @@ module _ (f : FileRecord) (a : Asked) (o : List ℕ) (r : Answer) where
   reply-outside e q = answers (give Success []) o (rw e) (record { answered = q; output = refl })
 
   module _ (e : isOutside (f .eof) (a .offset) ≡ false) (first : Region) (d : first ≡ firstRegion (f .eof) (f .valid) a) where
-    pub reply-one : (out : List ℕ) → secondDue (f .eof) (f .valid) a ≡ false → 40 ≤ length o → out ≡ (header 1 ++ regionBytes first) ++ drop 40 o
+    pub reply-one : (out : List ℕ) → secondDue (f .eof) (f .valid) a ≡ false → 40 ≤ length o → out ≡ (regionsHeader 1 ++ regionBytes first) ++ drop 40 o
         → r ≡ record { status = Success; count = 40 } → Answers out
     unfolding regionsAnswer answerRegions listBytes
     reply-one out k h p q =
-        answers (give Success (header 1 ++ regionBytes first)) out (rw (e, k, ← d, le-leb 40 (length o) h, append-nil))
+        answers (give Success (regionsHeader 1 ++ regionBytes first)) out (rw (e, k, ← d, le-leb 40 (length o) h, append-nil))
         (record { answered = q ∙ simp (length-append, length-header, length-region); output = p ∙ simp (length-append, length-header, length-region) })
 
     pub reply-overflow : secondDue (f .eof) (f .valid) a ≡ true → length o < 64 → r ≡ answer (refuse BufferOverflow) → Answers o
@@ -99,10 +99,10 @@ module _ (f : FileRecord) (a : Asked) (o : List ℕ) (r : Answer) where
     reply-overflow k h q = answers (refuse BufferOverflow) o (rw (e, k, lt-leb 64 (length o) h)) (record { answered = q; output = refl })
 
     pub reply-two : (second : Region) (out : List ℕ) → secondDue (f .eof) (f .valid) a ≡ true → second ≡ secondRegion (f .eof) (f .valid) a → 64 ≤ length o
-        → out ≡ (header 2 ++ (regionBytes first ++ regionBytes second)) ++ drop 64 o → r ≡ record { status = Success; count = 64 } → Answers out
+        → out ≡ (regionsHeader 2 ++ (regionBytes first ++ regionBytes second)) ++ drop 64 o → r ≡ record { status = Success; count = 64 } → Answers out
     unfolding regionsAnswer answerRegions listBytes
     reply-two second out k s h p q =
-        answers (give Success (header 2 ++ (regionBytes first ++ regionBytes second))) out (rw (e, k, ← d, ← s, le-leb 64 (length o) h, append-nil))
+        answers (give Success (regionsHeader 2 ++ (regionBytes first ++ regionBytes second))) out (rw (e, k, ← d, ← s, le-leb 64 (length o) h, append-nil))
         (record { answered = q ∙ simp (length-append, length-header, length-region); output = p ∙ simp (length-append, length-header, length-region) })
 
 -- ---- the whole control

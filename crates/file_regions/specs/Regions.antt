@@ -68,8 +68,8 @@ unfoldable pub isOutside : ℕ → ℕ → Bool
 isOutside eof offset = ltb eof offset || (eqb offset eof && ltb 0 eof)
 
 -- Flags 0, both counts, Reserved 0
-abbrev pub header : ℕ → List ℕ
-header n = encode (4 ∷ 4 ∷ 4 ∷ 4 ∷ []) (0 ∷ n ∷ n ∷ 0 ∷ [])
+abbrev pub regionsHeader : ℕ → List ℕ
+regionsHeader n = encode (4 ∷ 4 ∷ 4 ∷ 4 ∷ []) (0 ∷ n ∷ n ∷ 0 ∷ [])
 
 abbrev pub regionBytes : Region → List ℕ
 regionBytes r = encode (8 ∷ 8 ∷ 4 ∷ 4 ∷ []) (r .offset ∷ r .length ∷ r .usage ∷ 0 ∷ [])
@@ -80,7 +80,7 @@ listBytes (r ∷ rs) = regionBytes r ++ listBytes rs
 
 -- all regions, or none where they do not fit
 unfoldable pub answerRegions : List Region → ℕ → Reply
-answerRegions rs room = cond (leb (16 + 24 * length rs) room) (give Success (header (length rs) ++ listBytes rs)) (refuse BufferOverflow)
+answerRegions rs room = cond (leb (16 + 24 * length rs) room) (give Success (regionsHeader (length rs) ++ listBytes rs)) (refuse BufferOverflow)
 
 unfoldable pub regionsAnswer : FileRecord → Asked → ℕ → Reply
 regionsAnswer f a room = cond (isOutside (f .eof) (a .offset)) (give Success []) (answerRegions (regionsOf (f .eof) (f .valid) a) room)

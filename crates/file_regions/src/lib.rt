@@ -8,7 +8,7 @@ ghost use lib.Dec.{leb, eqb};
 ghost use lib.ListN.{length, drop};
 ghost use Rattle.status.specs.Check.{judged};
 ghost use Rattle.status.specs.Reply.{Replied};
-ghost use Rattle.file_regions.specs.Regions.{askedOf, goodSizes, askedCheck, regionsCheck, firstRegion, secondDue, secondRegion, isOutside, header, regionBytes, regionsAnswer, regionsReply};
+ghost use Rattle.file_regions.specs.Regions.{askedOf, goodSizes, askedCheck, regionsCheck, firstRegion, secondDue, secondRegion, isOutside, regionsHeader, regionBytes, regionsAnswer, regionsReply};
 use file_record::FileRecord;
 use status::Answer;
 use status::Judged;
@@ -172,7 +172,7 @@ fn second_region(eof: u64, vdl: u64, a: Asked, first: Region) -> Region
 // Writes Flags, both counts and Reserved.
 fn put_header(out: &mut [u8], n: u64)
     requires { ⌜ 16 ≤ length (now out) ⌝ }
-    ensures { λ _. ⌜ now (out .exit) ≡ header n ++ drop 16 (now (out .entry)) ⌝ }
+    ensures { λ _. ⌜ now (out .exit) ≡ regionsHeader n ++ drop 16 (now (out .entry)) ⌝ }
 {
     le::put_two(out, 4, 0, n);
     le::put_two(&mut out[8..], 4, n, 0);
@@ -211,7 +211,7 @@ fn reply_regions(f: FileRecord, a: Asked, output: &mut [u8]) -> Answer
 // Writes a reply of two regions.
 fn put_two_regions(out: &mut [u8], first: Region, second: Region)
     requires { ⌜ 64 ≤ length (now out) ⌝ }
-    ensures { λ _. ⌜ now (out .exit) ≡ (header 2 ++ (regionBytes first ++ regionBytes second)) ++ drop 64 (now (out .entry)) ⌝ }
+    ensures { λ _. ⌜ now (out .exit) ≡ (regionsHeader 2 ++ (regionBytes first ++ regionBytes second)) ++ drop 64 (now (out .entry)) ⌝ }
 {
     put_header(out, 2);
     put_region(&mut out[16..], first);

@@ -1,4 +1,4 @@
--- Filters over chains of records, the edges behind which a reader reads, and the page that a read takes from there.
+-- Filters over chains of records, the boundaries behind which a reader reads, and the page that a read takes from there.
 -- Assumes nothing.
 use mathlib.Core.Path.{_≡_, refl, sym, ap, ap₂, _∙_, subst₂}
 use mathlib.Core.Logic.{_⊎_, inl, inr}
@@ -12,11 +12,11 @@ use lib.Dec.{leb, ltb, eqb}
 use lib.ListN.{length}
 use borrow.Author.Tests.{ltb-true, ltb-false, eqb-true, lt-ltb, le-ltb, le-leb, lt-leb, eq-eqb, ne-eqb}
 use Rattle.usn_record.specs.declared.Version.{Version}
-use Rattle.usn_record.specs.Layout.{Record, lengthOf}
-use Rattle.journal.specs.Edge.{behind}
+use Rattle.usn_record.specs.Layout.{Record, lengthOf, inVersion}
+use Rattle.journal.specs.Boundary.{recordsAfter}
 use Rattle.journal_page.specs.declared.Filter.{Filter}
 use Rattle.journal_page.specs.Select.{wanted, selects}
-use Rattle.journal_page.specs.Page.{inVersion, fits, Page, turn, pageOf, empty}
+use Rattle.journal_page.specs.Page.{fits, Page, pageStep, pageOf, empty}
 use Rattle.history.specs.Reading.{Alike}
 use Rattle.history.specs.Demand.{keep, filter, between, above}
 use Rattle.history.proofs.Links.{Chain, chain-le, link-rises, link-short}
@@ -79,25 +79,25 @@ pub above-append : (a : ℕ) (l m : List Record) → above a (l ++ m) ≡ above 
 unfolding above
 above-append a l m = filter-append _ l m
 
--- ---- edges
+-- ---- boundaries
 
-pub behind-here : (f p : ℕ) (l : List Record) → f ≡ p → behind f p l ≡ some l
-unfolding behind
-behind-here f p [] h = rw (eq-eqb f p h)
-behind-here f p (r ∷ rs) h = rw (eq-eqb f p h)
+pub after-here : (f p : ℕ) (l : List Record) → f ≡ p → recordsAfter f p l ≡ some l
+unfolding recordsAfter
+after-here f p [] h = rw (eq-eqb f p h)
+after-here f p (r ∷ rs) h = rw (eq-eqb f p h)
 
-pub behind-next : (f p : ℕ) (r : Record) (l : List Record) → f < p → behind f p (r ∷ l) ≡ behind (r .fields .usn) p l
-unfolding behind
-behind-next f p r l h = rw (ne-eqb f p (λ q. omega arith))
+pub after-next : (f p : ℕ) (r : Record) (l : List Record) → f < p → recordsAfter f p (r ∷ l) ≡ recordsAfter (r .fields .usn) p l
+unfolding recordsAfter
+after-next f p r l h = rw (ne-eqb f p (λ q. omega arith))
 
-pub behind-drop : (b : ℕ) (d : List Record) (f p : ℕ) (l : List Record) → Chain b d f → f ≤ p → behind b p (d ++ l) ≡ behind f p l
-behind-drop b [] f p l h k = ap (λ (x : ℕ). behind x p l) h
-behind-drop b (r ∷ rs) f p l h k =
-    behind-next b p r (rs ++ l) (omega (arith, link-rises b r (h .0), chain-le (r .fields .usn) rs f (h .1)))
-    ∙ behind-drop (r .fields .usn) rs f p l (h .1) k
+pub after-drop : (b : ℕ) (d : List Record) (f p : ℕ) (l : List Record) → Chain b d f → f ≤ p → recordsAfter b p (d ++ l) ≡ recordsAfter f p l
+after-drop b [] f p l h k = ap (λ (x : ℕ). recordsAfter x p l) h
+after-drop b (r ∷ rs) f p l h k =
+    after-next b p r (rs ++ l) (omega (arith, link-rises b r (h .0), chain-le (r .fields .usn) rs f (h .1)))
+    ∙ after-drop (r .fields .usn) rs f p l (h .1) k
 
--- a list split at an edge
-pub record Edge (f p : ℕ) (l t : List Record) (e : ℕ) : Type 0 where
+-- a list split at an boundary
+pub record Boundary (f p : ℕ) (l t : List Record) (e : ℕ) : Type 0 where
   pub before : List Record
   pub parts : l ≡ before ++ t
   pub upto : Chain f before p
@@ -109,8 +109,8 @@ some-inj a b h = cc
 none-some : {A : Type 0} (a : A) → none ≡ some a → ⊥
 none-some a h = let z : _≡_ {A = ℕ} 0 1 = cc in omega arith
 
-edge-here : (f p : ℕ) (l t : List Record) (e : ℕ) → Chain f l e → eqb f p ≡ true → some l ≡ some t → Edge f p l t e
-edge-here f p l t e h q k =
+boundary-here : (f p : ℕ) (l t : List Record) (e : ℕ) → Chain f l e → eqb f p ≡ true → some l ≡ some t → Boundary f p l t e
+boundary-here f p l t e h q k =
     record {
       before = [];
       parts = some-inj l t k;
@@ -118,33 +118,33 @@ edge-here f p l t e h q k =
       beyond = subst₂ (λ (x : ℕ) (y : List Record). Chain x y e) (eqb-true f p q) (some-inj l t k) h;
     }
 
-pub edge : (f p : ℕ) (l t : List Record) (e : ℕ) → Chain f l e → behind f p l ≡ some t → Edge f p l t e
-unfolding behind
-edge f p [] t e h k = go (eqb f p) refl k
+pub boundary : (f p : ℕ) (l t : List Record) (e : ℕ) → Chain f l e → recordsAfter f p l ≡ some t → Boundary f p l t e
+unfolding recordsAfter
+boundary f p [] t e h k = go (eqb f p) refl k
   where
-    go : (b : Bool) → eqb f p ≡ b → cond b (some []) none ≡ some t → Edge f p [] t e
-    go true q k = edge-here f p [] t e h q k
+    go : (b : Bool) → eqb f p ≡ b → cond b (some []) none ≡ some t → Boundary f p [] t e
+    go true q k = boundary-here f p [] t e h q k
     go false q k = absurd (none-some t k)
-edge f p (r ∷ rs) t e h k = go (eqb f p) refl k (edge (r .fields .usn) p rs t e (h .1))
+boundary f p (r ∷ rs) t e h k = go (eqb f p) refl k (boundary (r .fields .usn) p rs t e (h .1))
   where
-    go : (b : Bool) → eqb f p ≡ b → cond b (some (r ∷ rs)) (behind (r .fields .usn) p rs) ≡ some t
-        → (behind (r .fields .usn) p rs ≡ some t → Edge (r .fields .usn) p rs t e)
-        → Edge f p (r ∷ rs) t e
-    go true q k ih = edge-here f p (r ∷ rs) t e h q k
+    go : (b : Bool) → eqb f p ≡ b → cond b (some (r ∷ rs)) (recordsAfter (r .fields .usn) p rs) ≡ some t
+        → (recordsAfter (r .fields .usn) p rs ≡ some t → Boundary (r .fields .usn) p rs t e)
+        → Boundary f p (r ∷ rs) t e
+    go true q k ih = boundary-here f p (r ∷ rs) t e h q k
     go false q k ih =
         let g = ih k in
         record { before = r ∷ g .before; parts = ap (λ (x : List Record). r ∷ x) (g .parts); upto = (h .0, g .upto); beyond = g .beyond }
 
--- the edge found again, behind what stood before it
-pub behind-edge : (f p : ℕ) (l t : List Record) → Chain f l p → behind f p (l ++ t) ≡ some t
-behind-edge f p l t h = behind-drop f l p p t h (omega arith) ∙ behind-here p p t refl
+-- the boundary found again, behind what stood before it
+pub after-boundary : (f p : ℕ) (l t : List Record) → Chain f l p → recordsAfter f p (l ++ t) ≡ some t
+after-boundary f p l t h = after-drop f l p p t h (omega arith) ∙ after-here p p t refl
 
-pub behind-append : (f p : ℕ) (l t m : List Record) (e : ℕ) → Chain f l e → behind f p l ≡ some t → behind f p (l ++ m) ≡ some (t ++ m)
-behind-append f p l t m e h k =
-    let g = edge f p l t e h k in
-    ap (λ (x : List Record). behind f p (x ++ m)) (g .parts)
-    ∙ ap (behind f p) (append-assoc (g .before) t m)
-    ∙ behind-edge f p (g .before) (t ++ m) (g .upto)
+pub after-append : (f p : ℕ) (l t m : List Record) (e : ℕ) → Chain f l e → recordsAfter f p l ≡ some t → recordsAfter f p (l ++ m) ≡ some (t ++ m)
+after-append f p l t m e h k =
+    let g = boundary f p l t e h k in
+    ap (λ (x : List Record). recordsAfter f p (x ++ m)) (g .parts)
+    ∙ ap (recordsAfter f p) (append-assoc (g .before) t m)
+    ∙ after-boundary f p (g .before) (t ++ m) (g .upto)
 
 pub mem-range : (f : ℕ) (l : List Record) (e : ℕ) (r : Record) → Chain f l e → List·Memᴰ r l → (f < r .fields .usn) × (r .fields .usn ≤ e)
 mem-range f [] e r h m = absurd (List·Memᴰ·not-nil m)
@@ -157,17 +157,17 @@ mem-range f (x ∷ xs) e r h m = go (List·Memᴰ·cases-cons m) (mem-range (x .
         (omega (arith, link-rises f x (h .0)), omega (arith, chain-le (x .fields .usn) xs e (h .1)))
     go (inr n) ih = (omega (arith, link-rises f x (h .0), ih n .0), ih n .1)
 
-pub behind-mem : (f : ℕ) (l : List Record) (e : ℕ) (r : Record) → Chain f l e → List·Memᴰ r l
-    → (t : List Record) × (behind f (r .fields .usn) l ≡ some t)
-behind-mem f [] e r h m = absurd (List·Memᴰ·not-nil m)
-behind-mem f (x ∷ xs) e r h m = go (List·Memᴰ·cases-cons m) (behind-mem (x .fields .usn) xs e r (h .1))
+pub after-mem : (f : ℕ) (l : List Record) (e : ℕ) (r : Record) → Chain f l e → List·Memᴰ r l
+    → (t : List Record) × (recordsAfter f (r .fields .usn) l ≡ some t)
+after-mem f [] e r h m = absurd (List·Memᴰ·not-nil m)
+after-mem f (x ∷ xs) e r h m = go (List·Memᴰ·cases-cons m) (after-mem (x .fields .usn) xs e r (h .1))
   where
-    next : behind f (r .fields .usn) (x ∷ xs) ≡ behind (x .fields .usn) (r .fields .usn) xs
-    next = behind-next f (r .fields .usn) x xs (mem-range f (x ∷ xs) e r h m .0)
+    next : recordsAfter f (r .fields .usn) (x ∷ xs) ≡ recordsAfter (x .fields .usn) (r .fields .usn) xs
+    next = after-next f (r .fields .usn) x xs (mem-range f (x ∷ xs) e r h m .0)
 
-    go : (r ≡ x) ⊎ List·Memᴰ r xs → (List·Memᴰ r xs → (t : List Record) × (behind (x .fields .usn) (r .fields .usn) xs ≡ some t))
-        → (t : List Record) × (behind f (r .fields .usn) (x ∷ xs) ≡ some t)
-    go (inl q) ih = (xs, next ∙ behind-here (x .fields .usn) (r .fields .usn) xs (ap (λ (y : Record). y .fields .usn) (sym q)))
+    go : (r ≡ x) ⊎ List·Memᴰ r xs → (List·Memᴰ r xs → (t : List Record) × (recordsAfter (x .fields .usn) (r .fields .usn) xs ≡ some t))
+        → (t : List Record) × (recordsAfter f (r .fields .usn) (x ∷ xs) ≡ some t)
+    go (inl q) ih = (xs, next ∙ after-here (x .fields .usn) (r .fields .usn) xs (ap (λ (y : Record). y .fields .usn) (sym q)))
     go (inr n) ih = let k = ih n in (k .0, next ∙ k .1)
 
 -- a record above p, if the chain goes on above p
@@ -199,7 +199,7 @@ false-true q = absurd (let z : _≡_ {A = ℕ} 0 1 = cc in omega arith)
 module _ (f : Filter) (p : ℕ) (r : Record) (rs : List Record) (e : ℕ) (h : Chain p (r ∷ rs) e) where
   split-turn : (b₁ b₂ : Bool) (passed taken : Page) → selects f r ≡ b₁
       → Split f (r .fields .usn) rs e passed → Split f (r .fields .usn) rs e taken
-      → Split f p (r ∷ rs) e (turn b₁ b₂ r p passed taken)
+      → Split f p (r ∷ rs) e (pageStep b₁ b₂ r p passed taken)
   split-turn false b₂ passed taken q s t =
       record {
         taken = r ∷ s .taken;
@@ -261,8 +261,8 @@ first-fits v f room p (r ∷ rs) e h k =
     (go (selects f r) (first-fits v f room (r .fields .usn) rs e (h .1) k))
   where
     go : (b : Bool) → pageOf v f room (r .fields .usn) rs .cut && empty (pageOf v f room (r .fields .usn) rs .given) ≡ false
-        → turn b true r p (pageOf v f room (r .fields .usn) rs) (pageOf v f (room - lengthOf (inVersion v r)) (r .fields .usn) rs) .cut
-        && empty (turn b true r p (pageOf v f room (r .fields .usn) rs) (pageOf v f (room - lengthOf (inVersion v r)) (r .fields .usn) rs) .given) ≡ false
+        → pageStep b true r p (pageOf v f room (r .fields .usn) rs) (pageOf v f (room - lengthOf (inVersion v r)) (r .fields .usn) rs) .cut
+        && empty (pageStep b true r p (pageOf v f room (r .fields .usn) rs) (pageOf v f (room - lengthOf (inVersion v r)) (r .fields .usn) rs) .given) ≡ false
     go true ih = and-false (pageOf v f (room - lengthOf (inVersion v r)) (r .fields .usn) rs .cut)
     go false ih = ih
 
@@ -276,7 +276,7 @@ pub page-alike : (v : Version) (f g : Filter) → Alike f g → (room p : ℕ) (
 unfolding pageOf
 page-alike v f g a room p [] = refl
 page-alike v f g a room p (r ∷ rs) =
-    ap (λ (x : Bool). turn x (fits v room r) r p (pageOf v f room (r .fields .usn) rs) (pageOf v f (room - lengthOf (inVersion v r)) (r .fields .usn) rs))
+    ap (λ (x : Bool). pageStep x (fits v room r) r p (pageOf v f room (r .fields .usn) rs) (pageOf v f (room - lengthOf (inVersion v r)) (r .fields .usn) rs))
     (wanted-alike f g a (r .fields .reason))
-    ∙ ap₂ (λ (x y : Page). turn (selects g r) (fits v room r) r p x y) (page-alike v f g a room (r .fields .usn) rs)
+    ∙ ap₂ (λ (x y : Page). pageStep (selects g r) (fits v room r) r p x y) (page-alike v f g a room (r .fields .usn) rs)
     (page-alike v f g a (room - lengthOf (inVersion v r)) (r .fields .usn) rs)

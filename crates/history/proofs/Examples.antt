@@ -13,20 +13,20 @@ use Rattle.status.specs.declared.Status.the-variants.{Success, InvalidParameter
 use Rattle.status.specs.Reply.{Reply, refuse, give}
 use Rattle.volume.specs.State.{goodCapacity, goodPosition}
 use Rattle.usn_record.specs.declared.Version.the-variants.{V2}
-use Rattle.usn_record.specs.Layout.{goodName, Record}
-use Rattle.reply_walker.specs.Reply.{joined}
-use Rattle.journal.specs.Edge.{behind}
+use Rattle.usn_record.specs.Layout.{goodName, Record, inVersion}
+use Rattle.records.specs.Records.{joined}
+use Rattle.journal.specs.Boundary.{recordsAfter}
 use Rattle.journal_post.specs.declared.Change.{Change}
 use Rattle.journal_post.specs.Post.{postedName, recordOf}
 use Rattle.journal_page.specs.declared.Filter.{Filter}
 use Rattle.journal_read.specs.Input.{argumentCheck}
 use Rattle.journal_page.specs.Select.{wanted}
-use Rattle.journal_page.specs.Page.{inVersion, fits, pageOf, pageReply}
+use Rattle.journal_page.specs.Page.{fits, pageOf, pageReply}
 use Rattle.journal_read.specs.Read.{isDeleted, origin, deletedCheck, readAnswer}
 use Rattle.history.specs.Calls.{Read, Call, create, post, read, Journal, replyTo, outcome, next, runs, Widths, AllTyped}
 use Rattle.history.specs.Log.{History, posted, opened, isPosted, shed, added, notePost, notes}
 use Rattle.history.specs.Reading.{Reader, fresh, Turn, mine, follow}
-use Rattle.history.specs.Demand.{NoCreation, above, wellFormed, Kept}
+use Rattle.history.specs.Demand.{NoCreation, above, wellFormed, ReaderPromise}
 use Rattle.history.proofs.Sim.{Sim, Live}
 use Rattle.history.proofs.Simulate.{create-sim, sim-run}
 use Rattle.history.proofs.Readers.{reply-live}
@@ -134,7 +134,7 @@ answered start room ok = reply-live after told sim live (asks start room) ok
 
 -- each read gives its reply
 pub reads-right : map (λ (e : Example). replyTo after (asks (e .start) (e .room))) examples ≡ map (λ (e : Example). e .reply) examples
-unfolding opened isPosted shed added notePost postedName goodName le unle numberAt argumentCheck isDeleted origin deletedCheck behind wanted fits pageOf pageReply readAnswer joined
+unfolding opened isPosted shed added notePost postedName goodName le unle numberAt argumentCheck isDeleted origin deletedCheck recordsAfter wanted fits pageOf pageReply readAnswer joined
 reads-right =
     ap₂ _∷_ (answered 40 136 refl)
     (ap₂ _∷_ (answered 100 136 refl)
@@ -157,9 +157,9 @@ historyAfter n = notes (opened (disk .volume) 1024 7) (replicate n (post change 
 abbrev first : Record
 first = recordOf change name 80
 
-reader : (n : ℕ) → List·Memᴰ first (posted (historyAfter n)) → Kept (journalAfter n) (historyAfter n) (fresh 80 all)
+reader : (n : ℕ) → List·Memᴰ first (posted (historyAfter n)) → ReaderPromise (journalAfter n) (historyAfter n) (fresh 80 all)
 reader n m =
-    subst (λ (cs : List Call). Kept (runs (next disk (create 7)) cs) (notes (opened (disk .volume) 1024 7) cs) (fresh 80 all)) (append-nil (replicate n (post change name)))
+    subst (λ (cs : List Call). ReaderPromise (runs (next disk (create 7)) cs) (notes (opened (disk .volume) 1024 7) cs) (fresh 80 all)) (append-nil (replicate n (post change name)))
     (demand3 disk (create 7) (opened (disk .volume) 1024 7) created-right refl (replicate n (post change name)) [] 80 all tt (again (all-typed n))
     (quiet (none-created n (next disk (create 7)))) (inr (first, m, refl)) (λ z. omega arith) tt)
   where

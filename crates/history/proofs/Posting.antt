@@ -10,16 +10,16 @@ use lib.Dec.{leb, ltb}
 use lib.ListN.{length, take, drop, length-append}
 use lib.Seq.{drop-at}
 use borrow.Author.Tests.{ltb-true, ltb-false, le-ltb, le-leb, lt-leb}
-use Rattle.ring.specs.Ring.{turned, placed}
-use Rattle.ring.proofs.Turning.{length-placed, kept-placed}
+use Rattle.ring.specs.Ring.{rotated, placed}
+use Rattle.ring.proofs.Rotating.{length-placed, kept-placed}
 use Rattle.volume.specs.declared.Volume.{Volume}
-use Rattle.volume.specs.Calls.{moved}
+use Rattle.volume.specs.Calls.{atPositions}
 use Rattle.usn_record.specs.Layout.{Record, bytesOf, lengthOf}
 use Rattle.usn_record.proofs.Record.{length-layout}
-use Rattle.reply_walker.specs.Reply.{joined}
-use Rattle.reply_walker.proofs.Replies.{AllSound}
+use Rattle.records.specs.Records.{joined}
+use Rattle.records.proofs.Runs.{AllSound}
 use Rattle.journal.specs.Kept.{keptBytes, chained}
-use Rattle.journal.specs.Edge.{oldest}
+use Rattle.journal.specs.Boundary.{oldest}
 use Rattle.history.specs.Log.{Shed, dropping, shed}
 use Rattle.history.proofs.Links.{Chain, link-usn, chain-le}
 
@@ -127,7 +127,7 @@ module _ (v : Volume) (ring : List ℕ) (gone rest : List Record) (from : ℕ) (
       ap (drop (from - v .first)) (joined-append gone rest)
       ∙ drop-at (joined gone) (joined rest) (from - v .first) (omega (arith, chain-length (v .first) gone from a))
 
-  pub posted-bytes : keptBytes (moved v from (v .last + lengthOf r)) (placed ring at (bytesOf r)) ≡ joined (rest ++ (r ∷ []))
+  pub posted-bytes : keptBytes (atPositions v from (v .last + lengthOf r)) (placed ring at (bytesOf r)) ≡ joined (rest ++ (r ∷ []))
   unfolding keptBytes
   posted-bytes =
       let d : ℕ = v .last - v .first in
@@ -135,9 +135,9 @@ module _ (v : Volume) (ring : List ℕ) (gone rest : List Record) (from : ℕ) (
       let n : v .last + lengthOf r - from ≡ d - g + length (bytesOf r) = omega (arith, new-bytes, low, high) in
       let x : v .last ≡ v .first + d = omega (arith, low, high) in
       let y : from ≡ v .first + g = omega (arith, low) in
-      ap (λ (z : ℕ). take (v .last + lengthOf r - from) (turned (placed ring at (bytesOf r)) (from % z))) length-posted
-      ∙ ap (λ (z : ℕ). take z (turned (placed ring at (bytesOf r)) (from % length ring))) n
-      ∙ ap₂ (λ (z w : ℕ). take (d - g + length (bytesOf r)) (turned (placed ring (z % length ring) (bytesOf r)) (w % length ring))) x y
+      ap (λ (z : ℕ). take (v .last + lengthOf r - from) (rotated (placed ring at (bytesOf r)) (from % z))) length-posted
+      ∙ ap (λ (z : ℕ). take z (rotated (placed ring at (bytesOf r)) (from % length ring))) n
+      ∙ ap₂ (λ (z w : ℕ). take (d - g + length (bytesOf r)) (rotated (placed ring (z % length ring) (bytesOf r)) (w % length ring))) x y
       ∙ kept-placed ring (v .first) d g (bytesOf r) pos (omega (arith, low, high)) fits (omega (arith, new-bytes, low, high))
       ∙ ap (λ (z : List ℕ). drop g z ++ bytesOf r) kept
       ∙ ap₂ _++_ rest-bytes (sym (joined-one r))

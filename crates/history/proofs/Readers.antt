@@ -23,21 +23,22 @@ use Rattle.status.proofs.Checking.{else-none, unless-true}
 use Rattle.volume.specs.declared.Volume.{Volume}
 use Rattle.volume.specs.State.{supported, isActive, isDeleting, activeCheck, goodCapacity}
 use Rattle.usn_record.specs.declared.Version.{Version}
-use Rattle.usn_record.specs.Layout.{Record}
-use Rattle.reply_walker.specs.Reply.{positionOf, joined, records}
+use Rattle.usn_record.specs.Layout.{Record, inVersion}
+use Rattle.records.specs.Records.{joined, records}
+use Rattle.reply_walker.specs.Reply.{positionOf}
 use Rattle.journal.specs.Kept.{keptBytes, inChain, goodMarks, sound, kept}
-use Rattle.journal.specs.Edge.{behind}
+use Rattle.journal.specs.Boundary.{recordsAfter}
 use Rattle.journal_read.specs.Input.{filterOf, versionOf, argumentCheck}
 use Rattle.journal_page.specs.Select.{selects}
-use Rattle.journal_page.specs.Page.{inVersion, Page, pageOf, empty, pageBytes, pageReply}
+use Rattle.journal_page.specs.Page.{Page, pageOf, empty, pageBytes, pageReply}
 use Rattle.journal_read.specs.Read.{isDeleted, origin, deletedCheck, answerFrom, readAnswer, readCheck, readReply}
 use Rattle.history.specs.Calls.{Read, read, Journal, replyTo, outcome, next, Typed, AllTyped}
 use Rattle.history.specs.Log.{History, posted, note, notes}
-use Rattle.history.specs.Reading.{Sheet, Reader, moved, told, Turn, mine, other, callOf, hears, follow, Carries, Own, Chosen, Hold}
+use Rattle.history.specs.Reading.{Sheet, Reader, advanced, told, Turn, mine, other, callOf, hears, follow, Carries, Own, Chosen, Hold}
 use Rattle.history.specs.Demand.{filter, between, CreatesNone, NoCreation, DroppedAbove, isNone, wellFormed}
 use Rattle.history.proofs.Links.{Chain, chain-le, chain-append}
 use Rattle.history.proofs.Sim.{Live, usable, Sim, Grow}
-use Rattle.history.proofs.Chains.{filter-append, between-append, between-high, between-all, between-top, behind-drop, behind-edge, behind-append, Edge, edge, mem-range, some-above, Split, split, page-alike}
+use Rattle.history.proofs.Chains.{filter-append, between-append, between-high, between-all, between-top, after-drop, after-boundary, after-append, Boundary, boundary, mem-range, some-above, Split, split, page-alike}
 use Rattle.history.proofs.Simulate.{kept-live, sound-live, sim-step}
 
 pub clash : {A : Type 0} → _≡_ {A = ℕ} 0 1 → A
@@ -67,10 +68,10 @@ pub record Stand (h : History) (d : Reader) : Type 0 where
   pub rises : d .start ≤ d .position
   pub positive : 0 < d .start
   pub rest : List Record
-  pub edge : behind (h .base) (d .position) (posted h) ≡ some rest
+  pub boundary : recordsAfter (h .base) (d .position) (posted h) ≡ some rest
 
-pub stand-edge : (j : Journal) (h : History) (d : Reader) → Sim j h → (t : Stand h d) → Edge (h .base) (d .position) (posted h) (t .rest) (h .end)
-stand-edge j h d m t = edge (h .base) (d .position) (posted h) (t .rest) (h .end) (whole j h m) (t .edge)
+pub stand-boundary : (j : Journal) (h : History) (d : Reader) → Sim j h → (t : Stand h d) → Boundary (h .base) (d .position) (posted h) (t .rest) (h .end)
+stand-boundary j h d m t = boundary (h .base) (d .position) (posted h) (t .rest) (h .end) (whole j h m) (t .boundary)
 
 -- it stays so while the history grows
 pub stand-grow : (j : Journal) (h k : History) (d : Reader) → Sim j h → Grow h k → Stand h d → Stand k d
@@ -80,9 +81,9 @@ stand-grow j h k d m g t =
       rises = t .rises;
       positive = t .positive;
       rest = t .rest ++ g .more;
-      edge =
-          ap₂ (λ (x : ℕ) (y : List Record). behind x (d .position) y) (g .base) (g .parts)
-          ∙ behind-append (h .base) (d .position) (posted h) (t .rest) (g .more) (h .end) (whole j h m) (t .edge);
+      boundary =
+          ap₂ (λ (x : ℕ) (y : List Record). recordsAfter x (d .position) y) (g .base) (g .parts)
+          ∙ after-append (h .base) (d .position) (posted h) (t .rest) (g .more) (h .end) (whole j h m) (t .boundary);
     }
   where
     same : between (d .start) (d .position) (posted k) ≡ between (d .start) (d .position) (posted h)
@@ -90,7 +91,7 @@ stand-grow j h k d m g t =
         ap (between (d .start) (d .position)) (g .parts)
         ∙ between-append (d .start) (d .position) (posted h) (g .more)
         ∙ ap (λ (x : List Record). between (d .start) (d .position) (posted h) ++ x)
-        (between-high (d .start) (d .position) (h .end) (g .more) (k .end) (g .chain) (chain-le (d .position) (t .rest) (h .end) (stand-edge j h d m t .beyond)))
+        (between-high (d .start) (d .position) (h .end) (g .more) (k .end) (g .chain) (chain-le (d .position) (t .rest) (h .end) (stand-boundary j h d m t .beyond)))
         ∙ append-nil (between (d .start) (d .position) (posted h))
 
 -- ---- the checks of a read
@@ -167,10 +168,10 @@ module _ (j : Journal) (h : History) (m : Sim j h) (d : Reader) (t : Stand h d) 
   p = d .position
 
   base-low : h .base ≤ p
-  base-low = chain-le (h .base) (stand-edge j h d m t .before) p (stand-edge j h d m t .upto)
+  base-low = chain-le (h .base) (stand-boundary j h d m t .before) p (stand-boundary j h d m t .upto)
 
   p-end : p ≤ h .end
-  p-end = chain-le p (t .rest) (h .end) (stand-edge j h d m t .beyond)
+  p-end = chain-le p (t .rest) (h .end) (stand-boundary j h d m t .beyond)
 
   not-zero : eqb p 0 ≡ false
   not-zero = ne-eqb p 0 (λ q. omega (arith, t .positive, t .rises))
@@ -187,7 +188,7 @@ module _ (j : Journal) (h : History) (m : Sim j h) (d : Reader) (t : Stand h d) 
   -- the reply by a test for deleted entries, a first position and an origin
   abbrev by-marks : Bool → ℕ → ℕ → Reply
   by-marks x f o =
-      guard (unless (not x) JournalEntryDeleted) (answerFrom (versionOf (a .input)) (filterOf (a .input)) (a .room - 8) o (behind f o (h .left)))
+      guard (unless (not x) JournalEntryDeleted) (answerFrom (versionOf (a .input)) (filterOf (a .input)) (a .room - 8) o (recordsAfter f o (h .left)))
 
   answered : replyTo j a ≡ by-marks (ltb p (h .first)) (h .first) p
   unfolding readAnswer deletedCheck
@@ -204,7 +205,7 @@ module _ (j : Journal) (h : History) (m : Sim j h) (d : Reader) (t : Stand h d) 
       answered
       ∙ ap (λ (x : Bool). by-marks x (h .first) p) (le-ltb p (h .first) k)
       ∙ ap (answerFrom (versionOf (a .input)) (filterOf (a .input)) (a .room - 8) p)
-      (sym (behind-drop (h .base) (h .dropped) (h .first) p (h .left) (m .gone) k) ∙ t .edge)
+      (sym (after-drop (h .base) (h .dropped) (h .first) p (h .left) (m .gone) k) ∙ t .boundary)
       ∙ ap (pageReply (versionOf (a .input))) (page-alike (versionOf (a .input)) (filterOf (a .input)) (d .filter) (c .1) (a .room - 8) p (t .rest))
 
 -- ---- the clause on deleted entries
@@ -267,7 +268,7 @@ position-back n s h = rw (take-at (le 8 n) s 8 (length-le 8 n)) (unle-le 8 n h)
 
 -- how a reader gets on by a reply that gives so many records
 pub record Advance (h : History) (d : Reader) (t : Stand h d) (a : Read) (bytes : List ℕ) : Type 0 where
-  pub next : Stand h (moved a bytes d)
+  pub next : Stand h (advanced a bytes d)
   pub count : ℕ
   pub sum : length (filter (selects (d .filter)) (t .rest)) ≡ count + length (filter (selects (d .filter)) (next .rest))
   pub rises : d .position ≤ positionOf bytes
@@ -297,8 +298,8 @@ module _ (j : Journal) (h : History) (m : Sim j h) (d : Reader) (t : Stand h d) 
     r : Full w c x bytes
     r = reply-inv w c x bytes k
 
-    e : Edge (h .base) (d .position) (posted h) (t .rest) (h .end)
-    e = stand-edge j h d m t
+    e : Boundary (h .base) (d .position) (posted h) (t .rest) (h .end)
+    e = stand-boundary j h d m t
 
     sp : Split (d .filter) (d .position) (t .rest) (h .end) c
     sp = split w (d .filter) room (d .position) (t .rest) (h .end) (e .beyond)
@@ -348,15 +349,15 @@ module _ (j : Journal) (h : History) (m : Sim j h) (d : Reader) (t : Stand h d) 
         ∙ sym (filter-append (selects (d .filter)) (β (d .position) (e .before)) (sp .taken))
         ∙ ap sel (sym now)
 
-    step-handed : Hold (moved a bytes d .handed) (sel (β q (posted h)))
+    step-handed : Hold (advanced a bytes d .handed) (sel (β q (posted h)))
     step-handed =
-        subst (Hold (moved a bytes d .handed)) grown
+        subst (Hold (advanced a bytes d .handed)) grown
         (hold-more (d .handed) (sel (β (d .position) (posted h))) (sel (sp .taken)) (record { version = w; bytes = drop 8 bytes }) (t .handed) sheet)
 
-    step-edge : behind (h .base) q (posted h) ≡ some (sp .remain)
-    step-edge =
-        ap (behind (h .base) q) (e .parts ∙ ap (λ (y : List Record). e .before ++ y) (sp .parts) ∙ sym (append-assoc (e .before) (sp .taken) (sp .remain)))
-        ∙ behind-edge (h .base) q (e .before ++ sp .taken) (sp .remain) (chain-append (h .base) (e .before) (d .position) (sp .taken) q (e .upto) upto)
+    step-boundary : recordsAfter (h .base) q (posted h) ≡ some (sp .remain)
+    step-boundary =
+        ap (recordsAfter (h .base) q) (e .parts ∙ ap (λ (y : List Record). e .before ++ y) (sp .parts) ∙ sym (append-assoc (e .before) (sp .taken) (sp .remain)))
+        ∙ after-boundary (h .base) q (e .before ++ sp .taken) (sp .remain) (chain-append (h .base) (e .before) (d .position) (sp .taken) q (e .upto) upto)
 
     sums : length (sel (t .rest)) ≡ length (c .given) + length (sel (sp .remain))
     sums =
@@ -372,7 +373,7 @@ module _ (j : Journal) (h : History) (m : Sim j h) (d : Reader) (t : Stand h d) 
     advance : Advance h d t a bytes
     advance =
         record {
-          next = record { handed = step-handed; rises = omega (arith, p-q, t .rises); positive = t .positive; rest = sp .remain; edge = step-edge };
+          next = record { handed = step-handed; rises = omega (arith, p-q, t .rises); positive = t .positive; rest = sp .remain; boundary = step-boundary };
           count = length (c .given);
           sum = sums;
           rises = p-q;
@@ -414,7 +415,7 @@ pub refusal : (a : Read) (d : Reader) (r : Reply) → (answer r .status ≡ Succ
 refusal a d (refuse x) n = refl
 refusal a d (give x bytes) n = go (eqb (number x) 0) refl
   where
-    go : (b : Bool) → eqb (number x) 0 ≡ b → cond b (moved a bytes d) d ≡ d
+    go : (b : Bool) → eqb (number x) 0 ≡ b → cond b (advanced a bytes d) d ≡ d
     go true e = absurd (n (success-is x e))
     go false e = refl
 

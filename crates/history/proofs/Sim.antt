@@ -8,7 +8,7 @@ use lib.Dec.{eqb}
 use lib.ListN.{length}
 use Rattle.volume.specs.State.{supported, isActive, goodCapacity}
 use Rattle.usn_record.specs.Layout.{Record}
-use Rattle.reply_walker.specs.Reply.{joined}
+use Rattle.records.specs.Records.{joined}
 use Rattle.journal.specs.Kept.{keptBytes}
 use Rattle.history.specs.Calls.{Journal}
 use Rattle.history.specs.Log.{History, posted}

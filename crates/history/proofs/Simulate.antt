@@ -13,20 +13,20 @@ use Rattle.le.proofs.Runs.{and-left, and-right}
 use Rattle.status.specs.declared.Status.{Status}
 use Rattle.status.specs.declared.Status.the-variants.{Success, InvalidParameter, FileCorruptError, JournalDeleteInProgress, JournalNotActive, DiskFull}
 use Rattle.status.specs.Check.{unless, else}
-use Rattle.ring.specs.Ring.{turned, placed}
+use Rattle.ring.specs.Ring.{rotated, placed}
 use Rattle.volume.specs.declared.Volume.{Volume}
 use Rattle.volume.specs.State.{supported, isActive, isDeleting, goodCapacity, goodPosition}
-use Rattle.volume.specs.Calls.{performed, inState, moved, createCheck, created, deleteCheck, finishCheck}
+use Rattle.volume.specs.Calls.{performed, inState, atPositions, createCheck, created, deleteCheck, finishCheck}
 use Rattle.volume.proofs.Marks.{capacity-facts, position-facts, facts-position}
 use Rattle.usn_record.specs.declared.Version.the-variants.{V3}
 use Rattle.usn_record.specs.Layout.{recordLength, shown, goodName, Record, bytesOf, lengthOf}
 use Rattle.usn_record.proofs.Name.{short}
 use Rattle.record_reader.proofs.Judge.{shown-same, shown-lt}
-use Rattle.reply_walker.specs.Reply.{whole, recordList, records, joined}
-use Rattle.reply_walker.proofs.Replies.{joined-read}
+use Rattle.records.specs.Records.{whole, recordList, records, joined}
+use Rattle.records.proofs.Runs.{joined-read}
 use Rattle.journal.specs.Kept.{keptBytes, keeps, chained, inChain, goodMarks, sound, kept}
-use Rattle.journal.specs.Edge.{oldest}
-use Rattle.journal.proofs.Edges.{facts-marks, facts-sound}
+use Rattle.journal.specs.Boundary.{oldest}
+use Rattle.journal.proofs.Boundaries.{facts-marks, facts-sound}
 use Rattle.journal_post.specs.declared.Change.{Change}
 use Rattle.journal_post.specs.declared.Verdict.{Verdict}
 use Rattle.journal_post.specs.declared.Verdict.the-variants.{Skip, Reject, Accept}
@@ -192,16 +192,16 @@ module _ (j : Journal) (h : History) (m : Sim j h) (l : Live j h) (c : Change) (
       ∙ ap₂ (λ (x y : ℕ). oldest (h .capacity) x y (h .left)) end-is (l .first)
       ∙ sym (shed-oldest (h .capacity) end (h .first) (h .left))
 
-  volume-is : postedVolume (j .volume) (j .ring) name ≡ moved (j .volume) (t .from) end
+  volume-is : postedVolume (j .volume) (j .ring) name ≡ atPositions (j .volume) (t .from) end
   unfolding postedVolume
-  volume-is = ap₂ (moved (j .volume)) from-is end-is
+  volume-is = ap₂ (atPositions (j .volume)) from-is end-is
 
   ring-is : postedRing (j .volume) (j .ring) c name ≡ placed (j .ring) (j .volume .last % length (j .ring)) (bytesOf new)
   unfolding postedRing
   ring-is = ap (λ (x : ℕ). placed (j .ring) (j .volume .last % length (j .ring)) (bytesOf (recordOf c name x))) end-is
 
   abbrev after : Journal
-  after = record { volume = moved (j .volume) (t .from) end; ring = placed (j .ring) (j .volume .last % length (j .ring)) (bytesOf new) }
+  after = record { volume = atPositions (j .volume) (t .from) end; ring = placed (j .ring) (j .volume .last % length (j .ring)) (bytesOf new) }
 
   written-is : written j c name ≡ after
   written-is = ap₂ (λ (x : Volume) (y : List ℕ). record { volume = x; ring = y }) volume-is ring-is
@@ -232,7 +232,7 @@ module _ (j : Journal) (h : History) (m : Sim j h) (l : Live j h) (c : Change) (
 
   after-bytes : keptBytes (after .volume) (after .ring) ≡ joined (all .rest)
   after-bytes =
-      ap (λ (x : ℕ). keptBytes (moved (j .volume) (t .from) x) (after .ring)) (sym end-is)
+      ap (λ (x : ℕ). keptBytes (atPositions (j .volume) (t .from) x) (after .ring)) (sym end-is)
       ∙ posted-bytes (j .volume) (j .ring) (t .gone) (t .rest) (t .from) new filled gone-chain rest-chain kept-parts span-fits room-fits
       ∙ ap (λ (x : Shed). joined (x .rest)) (sym all-is)
 
@@ -493,7 +493,7 @@ module _ (j : Journal) (id : ℕ) (e : outcome j (create id) .status ≡ Success
   unfolding keptBytes joined
   none-kept =
       let z : v .last - v .last ≡ 0 = omega arith in
-      ap (λ (n : ℕ). take n (turned (j .ring) (v .last % length (j .ring)))) z
+      ap (λ (n : ℕ). take n (rotated (j .ring) (v .last % length (j .ring)))) z
 
   opened-sim : Sim (with (created v id) (j .ring)) (opened v (length (j .ring)) id)
   unfolding opened

@@ -18,20 +18,20 @@ use Rattle.status.specs.Reply.{Reply, refuse, give}
 use Rattle.usn_record.specs.declared.Version.{Version}
 use Rattle.usn_record.specs.Layout.{Record}
 use Rattle.reply_walker.specs.Reply.{positionOf}
-use Rattle.journal.specs.Edge.{behind}
+use Rattle.journal.specs.Boundary.{recordsAfter}
 use Rattle.journal_page.specs.declared.Filter.{Filter}
 use Rattle.journal_read.specs.Input.{versionOf, argumentCheck}
 use Rattle.journal_page.specs.Select.{selects}
 use Rattle.journal_page.specs.Page.{Page, pageOf, empty, pageBytes, pageReply}
 use Rattle.history.specs.Calls.{Read, Call, create, post, read, delete, finish, Journal, replyTo, outcome, next, runs, AllTyped}
 use Rattle.history.specs.Log.{History, posted, opened, note, notes, opens}
-use Rattle.history.specs.Reading.{Reader, fresh, moved, told, Turn, mine, other, callOf, follow, Carries, Chosen}
-use Rattle.history.specs.Demand.{filter, between, above, Rising, Startable, DroppedAbove, NoCreation, isNone, wellFormed, one, counts, ample, Kept, Demand3}
+use Rattle.history.specs.Reading.{Reader, fresh, advanced, told, Turn, mine, other, callOf, follow, Carries, Chosen}
+use Rattle.history.specs.Demand.{filter, between, above, Rising, Startable, DroppedAbove, NoCreation, isNone, wellFormed, one, counts, ample, ReaderPromise, Demand3}
 use Rattle.history.proofs.Links.{Chain, chain-le, link-rises}
 use Rattle.history.proofs.Sim.{Sim, Grow}
-use Rattle.history.proofs.Chains.{filter-chain, filter-none, above-low, above-all, above-append, behind-here, behind-mem, some-above, first-fits}
+use Rattle.history.proofs.Chains.{filter-chain, filter-none, above-low, above-all, above-append, after-here, after-mem, some-above, first-fits}
 use Rattle.history.proofs.Simulate.{sim-step, create-sim, sim-run, grow-run}
-use Rattle.history.proofs.Readers.{clash, whole, Stand, stand-edge, stand-grow, none-is, told-reply, deleted-iff, Advance, own-reply, refusal, stand-step, stand-run}
+use Rattle.history.proofs.Readers.{clash, whole, Stand, stand-boundary, stand-grow, none-is, told-reply, deleted-iff, Advance, own-reply, refusal, stand-step, stand-run}
 
 -- ---- progress
 
@@ -44,7 +44,7 @@ need-rest j h d m t = ap (λ (l : List Record). length (filter (selects (d .filt
   where
     same : above (d .position) (posted h) ≡ t .rest
     same =
-        let e = stand-edge j h d m t in
+        let e = stand-boundary j h d m t in
         ap (above (d .position)) (e .parts)
         ∙ above-append (d .position) (e .before) (t .rest)
         ∙ ap₂ (λ (x y : List Record). x ++ y) (above-low (d .position) (h .base) (e .before) (d .position) (e .upto) (omega arith))
@@ -81,7 +81,7 @@ answered j h d m t low a k w = (_, told-reply j h m d t a k live ok low ∙ repl
     page = pageOf (versionOf (a .input)) (d .filter) (a .room - 8) (d .position) (t .rest)
 
     fit : page .cut && empty (page .given) ≡ false
-    fit = first-fits (versionOf (a .input)) (d .filter) (a .room - 8) (d .position) (t .rest) (h .end) (stand-edge j h d m t .beyond) room
+    fit = first-fits (versionOf (a .input)) (d .filter) (a .room - 8) (d .position) (t .rest) (h .end) (stand-boundary j h d m t .beyond) room
 
 -- the reader is at the end, or has reads enough before it
 abbrev Soon : History → Reader → ℕ → Type 0
@@ -102,16 +102,16 @@ refuse-give : (x y : Status) (bytes : List ℕ) → refuse x ≡ give y bytes �
 refuse-give x y bytes e = clash cc
 
 module _ (j : Journal) (h : History) (d : Reader) (m : Sim j h) (t : Stand h d) (low : h .first ≤ d .position) where
-  soon-reply : (a : Read) (bytes : List ℕ) (x : Bool) (k : ℕ) → Advance h d t a bytes → Soon h d (one x + k) → Soon h (moved a bytes d) k
+  soon-reply : (a : Read) (bytes : List ℕ) (x : Bool) (k : ℕ) → Advance h d t a bytes → Soon h d (one x + k) → Soon h (advanced a bytes d) k
   soon-reply a bytes x k v s = go (v .ends) s
     where
-      go : (positionOf bytes ≡ h .end) ⊎ ((1 ≤ v .count) × (1 ≤ length (filter (selects (d .filter)) (v .next .rest)))) → Soon h d (one x + k) → Soon h (moved a bytes d) k
+      go : (positionOf bytes ≡ h .end) ⊎ ((1 ≤ v .count) × (1 ≤ length (filter (selects (d .filter)) (v .next .rest)))) → Soon h d (one x + k) → Soon h (advanced a bytes d) k
       go (inl e) s = inl e
       go (inr e) (inl s) =
-          inl (omega (arith, v .rises, chain-le (positionOf bytes) (v .next .rest) (h .end) (stand-edge j h (moved a bytes d) m (v .next) .beyond)))
+          inl (omega (arith, v .rises, chain-le (positionOf bytes) (v .next .rest) (h .end) (stand-boundary j h (advanced a bytes d) m (v .next) .beyond)))
       go (inr e) (inr s) =
           let n₀ : need h d ≡ length (filter (selects (d .filter)) (t .rest)) = need-rest j h d m t in
-          let n₁ : need h (moved a bytes d) ≡ length (filter (selects (d .filter)) (v .next .rest)) = need-rest j h (moved a bytes d) m (v .next) in
+          let n₁ : need h (advanced a bytes d) ≡ length (filter (selects (d .filter)) (v .next .rest)) = need-rest j h (advanced a bytes d) m (v .next) in
           inr (omega (arith, v .sum, one-le x, e .0, e .1, s .0, s .1), omega (arith, v .sum, one-le x, e .0, e .1, s .0, s .1))
 
   -- one of the reader's own reads
@@ -196,14 +196,14 @@ stand-fresh j h m start f pos at =
       rises = omega arith;
       positive = omega arith;
       rest = g .0;
-      edge = g .1;
+      boundary = g .1;
     }
   where
-    place : Startable h start → (t : List Record) × (behind (h .base) start (posted h) ≡ some t)
-    place (inl e) = (posted h, behind-here (h .base) start (posted h) (sym e))
+    place : Startable h start → (t : List Record) × (recordsAfter (h .base) start (posted h) ≡ some t)
+    place (inl e) = (posted h, after-here (h .base) start (posted h) (sym e))
     place (inr r) =
-        let g = behind-mem (h .base) (posted h) (h .end) (r .0) (whole j h m) (r .1) in
-        (g .0, ap (λ (x : ℕ). behind (h .base) x (posted h)) (sym (r .2)) ∙ g .1)
+        let g = after-mem (h .base) (posted h) (h .end) (r .0) (whole j h m) (r .1) in
+        (g .0, ap (λ (x : ℕ). recordsAfter (h .base) x (posted h)) (sym (r .2)) ∙ g .1)
 
 not-dropped : (j : Journal) (h : History) (d : Reader) → Sim j h → Stand h d → (DroppedAbove h (d .position) → ⊥) → h .first ≤ d .position
 not-dropped j h d m t n = go (ltb (d .position) (h .first)) refl
@@ -211,7 +211,7 @@ not-dropped j h d m t n = go (ltb (d .position) (h .first)) refl
     go : (x : Bool) → ltb (d .position) (h .first) ≡ x → h .first ≤ d .position
     go false q = ltb-false (d .position) (h .first) q
     go true q =
-        let e = stand-edge j h d m t in
+        let e = stand-boundary j h d m t in
         absurd
         (n (some-above (h .base) (h .dropped) (h .first) (d .position) (m .gone) (chain-le (h .base) (e .before) (d .position) (e .upto)) (ltb-true (d .position) (h .first) q)))
 
@@ -220,7 +220,7 @@ rising p [] e h = tt
 rising p (r ∷ l) e h = (link-rises p r (h .0), rising (r .fields .usn) l e (h .1))
 
 -- the promise holds wherever journal and history go together and the reader stands rightly
-pub promise : (j : Journal) (h : History) (d : Reader) → Sim j h → Stand h d → Kept j h d
+pub promise : (j : Journal) (h : History) (d : Reader) → Sim j h → Stand h d → ReaderPromise j h d
 promise j h d m t =
     record {
       handed = t .handed;
@@ -268,6 +268,6 @@ demand3 j c h k o before ts start f w y n at pos own =
     let ns = none-parts before us j₁ n in
     let m = sim-run before j₁ h (opens-sim j c h k o) (ys .0) (ns .0) in
     let t = stand-fresh (runs j₁ before) (notes h before) m start f pos at in
-    subst₂ (λ (x : Journal) (z : History). Kept x z (follow (runs j₁ before) (fresh start f) ts)) (sym (runs-append before us j₁)) (sym (notes-append before us h))
+    subst₂ (λ (x : Journal) (z : History). ReaderPromise x z (follow (runs j₁ before) (fresh start f) ts)) (sym (runs-append before us j₁)) (sym (notes-append before us h))
     (promise (runs (runs j₁ before) us) (notes (notes h before) us) (follow (runs j₁ before) (fresh start f) ts)
     (sim-run us (runs j₁ before) (notes h before) m (ys .1) (ns .1)) (stand-run ts (runs j₁ before) (notes h before) (fresh start f) m t (ys .1) (ns .1) own))

@@ -8,11 +8,11 @@ use lib.ListN.{drop}
 use Rattle.status.specs.Number.{number}
 use Rattle.status.specs.Reply.{Reply, refuse, give}
 use Rattle.usn_record.specs.declared.Version.{Version}
-use Rattle.usn_record.specs.Layout.{Record}
-use Rattle.reply_walker.specs.Reply.{positionOf, joined}
+use Rattle.usn_record.specs.Layout.{Record, inVersion}
+use Rattle.records.specs.Records.{joined}
+use Rattle.reply_walker.specs.Reply.{positionOf}
 use Rattle.journal_page.specs.declared.Filter.{Filter}
 use Rattle.journal_read.specs.Input.{startOf, filterOf, versionOf}
-use Rattle.journal_page.specs.Page.{inVersion}
 use Rattle.history.specs.Calls.{Read, Call, read, Journal, replyTo, next}
 
 -- what one SUCCESS reply hands out: the version asked for, and the bytes behind the position
@@ -30,8 +30,8 @@ abbrev pub fresh : ℕ → Filter → Reader
 fresh start f = record { start = start; filter = f; position = start; handed = [] }
 
 -- the reader once a reply has come: it stands at the reply's position and has its records
-abbrev pub moved : Read → List ℕ → Reader → Reader
-moved a bytes d =
+abbrev pub advanced : Read → List ℕ → Reader → Reader
+advanced a bytes d =
     record {
       start = d .start;
       filter = d .filter;
@@ -42,7 +42,7 @@ moved a bytes d =
 -- only a SUCCESS reply moves it or hands it anything
 abbrev pub told : Read → Reply → Reader → Reader
 told a (refuse x) d = d
-told a (give x bytes) d = cond (eqb (number x) 0) (moved a bytes d) d
+told a (give x bytes) d = cond (eqb (number x) 0) (advanced a bytes d) d
 
 -- a call of the list, with the choice whether it is this reader's
 pub data Turn : Type 0 where

@@ -76,12 +76,12 @@ module _ (pool : List ℕ) (ls : List Link) (i : ℕ) (p : Rest (goodLinks pool)
   all-good h = rest-none (goodLinks pool) ls i p h
 
   module _ (h : i < length ls) (r : Bool) (e : r ≡ goodLink pool (linkAt ls i)) where
-    judged : (t : Bool) → r ≡ t → goodLinks pool (linkAt ls i ∷ drop (i + 1) ls) ≡ t && goodLinks pool (drop (i + 1) ls)
+    one-judged : (t : Bool) → r ≡ t → goodLinks pool (linkAt ls i ∷ drop (i + 1) ls) ≡ t && goodLinks pool (drop (i + 1) ls)
     unfolding goodLinks
-    judged t k = ap (λ (x : Bool). x && goodLinks pool (drop (i + 1) ls)) (sym e ∙ k)
+    one-judged t k = ap (λ (x : Bool). x && goodLinks pool (drop (i + 1) ls)) (sym e ∙ k)
 
     pub one-bad : T (not r) → false ≡ goodLinks pool ls
-    one-bad y = sym (judged false (said-no r y)) ∙ rest-some (goodLinks pool) ls i p h
+    one-bad y = sym (one-judged false (said-no r y)) ∙ rest-some (goodLinks pool) ls i p h
 
     pub good-on : T (not (not r)) → Rest (goodLinks pool) ls (i + 1)
-    good-on y = sym (judged true (not-false r (said-no (not r) y))) ∙ rest-some (goodLinks pool) ls i p h
+    good-on y = sym (one-judged true (not-false r (said-no (not r) y))) ∙ rest-some (goodLinks pool) ls i p h

@@ -9,7 +9,7 @@ use Rattle.status.specs.declared.Status.the-variants.{Success, BufferTooSmall, 
 use Rattle.status.specs.Reply.{Reply, refuse, give}
 use Rattle.volume.specs.declared.Volume.{Volume}
 use Rattle.file_record.specs.declared.FileRecord.{FileRecord}
-use Rattle.reparse_point.specs.Reparse.{mostData, headerLength, header, reparseCheck, reparseBytes, reparseReply}
+use Rattle.reparse_point.specs.Reparse.{mostData, headerLength, reparseHeader, reparseCheck, reparseBytes, reparseReply}
 
 abbrev pub volume : Volume
 volume = record { usn = 0; regions = 0; reparse = 1; points = 1; journal = 0; state = 0; id = 0; first = 0; last = 0; capacity = 0 }
@@ -39,5 +39,5 @@ examples =
 
 -- each call gives its reply
 pub reparse-right : map (λ (e : Example). reparseReply volume (file (e .tag)) (e .bytes) (e .room)) examples ≡ map (λ (e : Example). e .reply) examples
-unfolding le encode mostData headerLength header reparseCheck reparseBytes reparseReply
+unfolding le encode mostData headerLength reparseHeader reparseCheck reparseBytes reparseReply
 reparse-right = refl

@@ -27,7 +27,7 @@ use Rattle.volume.specs.State.{supported}
 use Rattle.file_record.specs.declared.FileRecord.{FileRecord}
 use Rattle.file_record.proofs.FileRecord.{the-row, the-type}
 use Rattle.file_record.proofs.FileRecord.Laws.{the-laws}
-use Rattle.reparse_point.specs.Reparse.{mostData, headerLength, header, reparseCheck, reparseBytes, reparseReply}
+use Rattle.reparse_point.specs.Reparse.{mostData, headerLength, reparseHeader, reparseCheck, reparseBytes, reparseReply}
 
 -- ---- the header
 
@@ -50,11 +50,11 @@ length-numbers : (tag n : ℕ) → length (numbers tag n) ≡ 8
 unfolding encode le
 length-numbers tag n = refl
 
-pub header-size : (tag n : ℕ) (guid : List ℕ) → length guid ≡ 16 → length (header tag guid n) ≡ headerLength tag
-unfolding header headerLength
+pub header-size : (tag n : ℕ) (guid : List ℕ) → length guid ≡ 16 → length (reparseHeader tag guid n) ≡ headerLength tag
+unfolding reparseHeader headerLength
 header-size tag n guid g = by (leb (2 ^ 31) tag) refl
   where
-    by : (b : Bool) → leb (2 ^ 31) tag ≡ b → length (header tag guid n) ≡ headerLength tag
+    by : (b : Bool) → leb (2 ^ 31) tag ≡ b → length (reparseHeader tag guid n) ≡ headerLength tag
     by true e = rw (e, append-nil) (length-numbers tag n)
     by false e = rw e (length-append (numbers tag n) guid ∙ omega (arith, g, length-numbers tag n))
 
@@ -65,13 +65,13 @@ module _ (tag n : ℕ) (guid o out last : List ℕ) (h : headerLength tag ≤ le
   unfolding encode le
   head = put-next (put-first 4 (le 4 tag) o out refl e) 4 (encode (2 ∷ 2 ∷ []) (n ∷ 0 ∷ [])) last refl (omega (arith, h, header-least tag)) q
 
-  pub put-microsoft : 2 ^ 31 ≤ tag → back 4 out last ≡ header tag guid n ++ drop (headerLength tag) o
-  unfolding header headerLength
+  pub put-microsoft : 2 ^ 31 ≤ tag → back 4 out last ≡ reparseHeader tag guid n ++ drop (headerLength tag) o
+  unfolding reparseHeader headerLength
   put-microsoft m = rw (le-leb _ _ m, append-nil) (head .whole)
 
   pub put-other : tag < 2 ^ 31 → length guid ≡ 16 → (more : List ℕ) → more ≡ guid ++ drop (length guid) (lent 8 (back 4 out last))
-      → back 8 (back 4 out last) more ≡ header tag guid n ++ drop (headerLength tag) o
-  unfolding header headerLength
+      → back 8 (back 4 out last) more ≡ reparseHeader tag guid n ++ drop (headerLength tag) o
+  unfolding reparseHeader headerLength
   put-other m g more p =
       let w : Put o 24 (numbers tag n ++ guid) (back 8 (back 4 out last) more) =
       put-next head 16 guid more g (omega (arith, h, header-whole tag m)) (p ∙ ap (λ (k : ℕ). guid ++ drop k (lent 8 (back 4 out last))) g) in
@@ -101,10 +101,10 @@ copy-fits bytes o out at n e c =
 
 module _ (tag : ℕ) (guid bytes o out last : List ℕ) (at n : ℕ) (g : length guid ≡ 16) (h : headerLength tag ≤ length o) (a : at ≡ headerLength tag)
     (c : ((length bytes < length o - at) × (n ≡ length bytes)) ⊎ ((length o - at ≤ length bytes) × (n ≡ length o - at)))
-    (e : out ≡ header tag guid (length bytes) ++ drop (headerLength tag) o)
+    (e : out ≡ reparseHeader tag guid (length bytes) ++ drop (headerLength tag) o)
     (q : last ≡ take (n - 0) bytes ++ drop (length (take (n - 0) bytes)) (lent at out)) where
   pub put-data : (at + n ≡ headerLength tag + length (take (length o - headerLength tag) bytes))
-      × (back at out last ≡ (header tag guid (length bytes) ++ take (length o - headerLength tag) bytes) ++ drop (at + n) o)
+      × (back at out last ≡ (reparseHeader tag guid (length bytes) ++ take (length o - headerLength tag) bytes) ++ drop (at + n) o)
   put-data =
       let k = taken-part bytes (length o - at) n c in
       let z : n - 0 ≡ n = omega arith in
@@ -113,11 +113,11 @@ module _ (tag : ℕ) (guid bytes o out last : List ℕ) (at n : ℕ) (g : length
       q
       ∙ ap (λ (i : ℕ). take i bytes ++ drop (length (take i bytes)) (lent at out)) z
       ∙ ap (λ (i : ℕ). take n bytes ++ drop i (lent at out)) l in
-      let p : Put o at (header tag guid (length bytes)) out =
-      put-first at (header tag guid (length bytes)) o out (header-size tag (length bytes) guid g ∙ sym a) (e ∙ ap (λ (i : ℕ). header tag guid (length bytes) ++ drop i o) (sym a)) in
-      let s : Put o (at + n) (header tag guid (length bytes) ++ take n bytes) (back at out last) = put-next p n (take n bytes) last l (omega (arith, h, a, k .0)) w in
+      let p : Put o at (reparseHeader tag guid (length bytes)) out =
+      put-first at (reparseHeader tag guid (length bytes)) o out (header-size tag (length bytes) guid g ∙ sym a) (e ∙ ap (λ (i : ℕ). reparseHeader tag guid (length bytes) ++ drop i o) (sym a)) in
+      let s : Put o (at + n) (reparseHeader tag guid (length bytes) ++ take n bytes) (back at out last) = put-next p n (take n bytes) last l (omega (arith, h, a, k .0)) w in
       let t : take n bytes ≡ take (length o - headerLength tag) bytes = k .2 ∙ ap (λ (i : ℕ). take (length o - i) bytes) a in
-      (ap₂ _+_ a (sym l ∙ ap length t), s .whole ∙ ap (λ (x : List ℕ). (header tag guid (length bytes) ++ x) ++ drop (at + n) o) t)
+      (ap₂ _+_ a (sym l ∙ ap length t), s .whole ∙ ap (λ (x : List ℕ). (reparseHeader tag guid (length bytes) ++ x) ++ drop (at + n) o) t)
 
 -- ---- the reply
 
@@ -163,11 +163,11 @@ module _ (v : Volume) (f : FileRecord) (bytes o : List ℕ) where
         (leb-true _ _ (unless-true (leb (headerLength (f .tag)) (length o)) BufferTooSmall (k .1)), omega (arith, d, most-least (f .tag)))
 
     pub reply-given : (count : ℕ) (r : Answer) (out : List ℕ) → length (f .guid) ≡ 16 → count ≡ headerLength (f .tag) + length (take (length o - headerLength (f .tag)) bytes)
-        → out ≡ (header (f .tag) (f .guid) (length bytes) ++ take (length o - headerLength (f .tag)) bytes) ++ drop count o → r ≡ record { status = Success; count = count }
+        → out ≡ (reparseHeader (f .tag) (f .guid) (length bytes) ++ take (length o - headerLength (f .tag)) bytes) ++ drop count o → r ≡ record { status = Success; count = count }
         → Replied (reparseReply v f bytes (length o)) r o out
     unfolding reparseReply reparseBytes
     reply-given count r out g n e a =
-        let head : List ℕ = header (f .tag) (f .guid) (length bytes) in
+        let head : List ℕ = reparseHeader (f .tag) (f .guid) (length bytes) in
         let kept : List ℕ = take (length o - headerLength (f .tag)) bytes in
         let l : count ≡ length (head ++ kept) = n ∙ sym (length-append head kept ∙ ap (λ (i : ℕ). i + length kept) (header-size (f .tag) (length bytes) (f .guid) g)) in
         subst (λ (k : Option Status). Replied (guard k (give Success (head ++ kept))) r o out) (sym (passed-none (reparseCheck v f bytes (length o)) p))

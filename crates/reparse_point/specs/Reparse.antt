@@ -27,8 +27,8 @@ unfoldable pub headerLength : ℕ → ℕ
 headerLength tag = cond (isMicrosoft tag) 8 24
 
 -- tag, length of the whole data, Reserved, and the GUID where the tag is not Microsoft's
-unfoldable pub header : ℕ → List ℕ → ℕ → List ℕ
-header tag guid n = encode (4 ∷ 2 ∷ 2 ∷ []) (tag ∷ n ∷ 0 ∷ []) ++ cond (isMicrosoft tag) [] guid
+unfoldable pub reparseHeader : ℕ → List ℕ → ℕ → List ℕ
+reparseHeader tag guid n = encode (4 ∷ 2 ∷ 2 ∷ []) (tag ∷ n ∷ 0 ∷ []) ++ cond (isMicrosoft tag) [] guid
 
 -- support for the control; reparse points at all; data that the tag may have; a tag; room for the header
 unfoldable pub reparseCheck : Volume → FileRecord → List ℕ → ℕ → Option Status
@@ -40,7 +40,7 @@ reparseCheck v f bytes room =
 
 -- the header and as much data as fits
 unfoldable pub reparseBytes : FileRecord → List ℕ → ℕ → List ℕ
-reparseBytes f bytes room = header (f .tag) (f .guid) (length bytes) ++ take (room - headerLength (f .tag)) bytes
+reparseBytes f bytes room = reparseHeader (f .tag) (f .guid) (length bytes) ++ take (room - headerLength (f .tag)) bytes
 
 -- the reply of the whole control, with `room` bytes of output
 unfoldable pub reparseReply : Volume → FileRecord → List ℕ → ℕ → Reply

@@ -5,7 +5,7 @@ ghost use Prim.Native.Nat.{_+_, _-_, _≤_};
 ghost use lib.ListN.{length, take, drop};
 ghost use Rattle.status.specs.Check.{judged};
 ghost use Rattle.status.specs.Reply.{Replied};
-ghost use Rattle.reparse_point.specs.Reparse.{mostData, headerLength, header, reparseCheck, reparseReply};
+ghost use Rattle.reparse_point.specs.Reparse.{mostData, headerLength, reparseHeader, reparseCheck, reparseReply};
 use file_record::FileRecord;
 use status::Answer;
 use status::Judged;
@@ -57,7 +57,7 @@ fn judge_reparse(v: Volume, tag: u32, bytes: &[u8], room: usize) -> Judged
 // Writes the header of a tag with n bytes of data.
 fn put_header(out: &mut [u8], tag: u32, guid: &[u8], n: usize)
     requires { ⌜ (headerLength tag ≤ length (now out)) × (length (now guid) ≡ 16) × (n ≤ 16376) ⌝ }
-    ensures { λ _. ⌜ now (out .exit) ≡ header tag (now (guid .entry)) n ++ drop (headerLength tag) (now (out .entry)) ⌝ }
+    ensures { λ _. ⌜ now (out .exit) ≡ reparseHeader tag (now (guid .entry)) n ++ drop (headerLength tag) (now (out .entry)) ⌝ }
 {
     le::put(out, 4, tag as u64);
     le::put_two(&mut out[4..], 2, n as u64, 0);
@@ -70,7 +70,7 @@ fn put_header(out: &mut [u8], tag: u32, guid: &[u8], n: usize)
 // Writes the header and as much data as fits.
 fn put_reparse(out: &mut [u8], tag: u32, guid: &[u8], bytes: &[u8]) -> usize
     requires { ⌜ (headerLength tag ≤ length (now out)) × (length (now guid) ≡ 16) × (length (now bytes) ≤ 16376) ⌝ }
-    ensures { λ r. ⌜ (r ≡ headerLength tag + length (take (length (now (out .entry)) - headerLength tag) (now (bytes .entry)))) × (now (out .exit) ≡ (header tag (now (guid .entry)) (length (now (bytes .entry))) ++ take (length (now (out .entry)) - headerLength tag) (now (bytes .entry))) ++ drop r (now (out .entry))) ⌝ }
+    ensures { λ r. ⌜ (r ≡ headerLength tag + length (take (length (now (out .entry)) - headerLength tag) (now (bytes .entry)))) × (now (out .exit) ≡ (reparseHeader tag (now (guid .entry)) (length (now (bytes .entry))) ++ take (length (now (out .entry)) - headerLength tag) (now (bytes .entry))) ++ drop r (now (out .entry))) ⌝ }
 {
     let at = header_length(tag);
     let room = out.len() - at;

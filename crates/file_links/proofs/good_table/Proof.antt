@@ -5,13 +5,13 @@ use Prim.Native.Nat.{_-_, _≤_}
 use native.Mathlib.Omega.{arith}
 use lib.ListN.{length}
 use Rattle.file_links.specs.Links.{goodTable}
-use Rattle.file_links.proofs.Tables.{judged, lengths-differ, shorts-differ, judged-start, judged-good, judged-bad, judged-end}
+use Rattle.file_links.proofs.Tables.{goodFrom, lengths-differ, shorts-differ, good-from-start, good-from-good, good-from-bad, good-from-end}
 use Rattle.file_links.proofs.good_table.Statement.{statement}
 use Rattle.file_links.proofs.good_table.Tie as tie
 
 abbrev Inv-loop : tie.InvT-loop
 Inv-loop pool places lengths shorts n i₀ i =
-    (i ≤ n) × (n ≡ length places) × (length lengths ≡ length places) × (length shorts ≡ length places) × (judged pool places lengths shorts i ≡ goodTable pool places lengths shorts)
+    (i ≤ n) × (n ≡ length places) × (length lengths ≡ length places) × (length shorts ≡ length places) × (goodFrom pool places lengths shorts i ≡ goodTable pool places lengths shorts)
 
 abbrev μ-loop : tie.MeasureT-loop
 μ-loop pool places lengths shorts n i₀ i = n - i
@@ -31,14 +31,14 @@ loop-holds : tie.Need-loop-holds Inv-loop μ-loop
 loop-holds c =
     let e = c .before in
     let a = e .before .before .before .before .before .args in
-    (omega arith, refl, e .if1 .left, c .if2 .left, judged-start (a .pool .now) (a .places .now) (a .lengths .now) (a .shorts .now) (e .if1 .left) (c .if2 .left))
+    (omega arith, refl, e .if1 .left, c .if2 .left, good-from-start (a .pool .now) (a .places .now) (a .lengths .now) (a .shorts .now) (e .if1 .left) (c .if2 .left))
 
 returns-3 : tie.Need-returns-3 Inv-loop μ-loop
 returns-3 c =
     let g = c .before in
     let l = g .before .before .before .before .before in
     let a = l .before .before .before .before .before .before .before .args in
-    judged-bad (a .pool .now) (a .places .now) (a .lengths .now) (a .shorts .now) (l .loop .inv .2) (l .loop .inv .3) (l .loop .i) (omega arith) (g .good-link .result) (g .good-link .ensures)
+    good-from-bad (a .pool .now) (a .places .now) (a .lengths .now) (a .shorts .now) (l .loop .inv .2) (l .loop .inv .3) (l .loop .i) (omega arith) (g .good-link .result) (g .good-link .ensures)
     (c .if3 .taken) (l .loop .inv .4)
 
 loop-again : tie.Need-loop-again Inv-loop μ-loop
@@ -51,7 +51,7 @@ loop-again c =
       refl,
       v .2,
       v .3,
-      judged-good (a .pool .now) (a .places .now) (a .lengths .now) (a .shorts .now) (v .2) (v .3) (l .loop .i) (omega arith) (g .good-link .result) (g .good-link .ensures) (c .if3 .left)
+      good-from-good (a .pool .now) (a .places .now) (a .lengths .now) (a .shorts .now) (v .2) (v .3) (l .loop .i) (omega arith) (g .good-link .result) (g .good-link .ensures) (c .if3 .left)
           (v .4),
     )
 
@@ -59,7 +59,7 @@ returns-4 : tie.Need-returns-4 Inv-loop μ-loop
 returns-4 c =
     let l = c .before in
     let a = l .before .before .before .before .before .before .before .args in
-    judged-end (a .pool .now) (a .places .now) (a .lengths .now) (a .shorts .now) (l .loop .i) (omega arith) (l .loop .inv .4)
+    good-from-end (a .pool .now) (a .places .now) (a .lengths .now) (a .shorts .now) (l .loop .i) (omega arith) (l .loop .inv .4)
 
 pub good-table-spec : {M : Type 1} → statement M
 good-table-spec =
