@@ -1,3 +1,2 @@
 pub mod Enters
 pub mod Shown
-pub mod Where

@@ -40,7 +40,7 @@ use Rattle.file_links.proofs.no_link.Symbol as no-def
 use Rattle.file_links.proofs.no_link.Symbol.{name as #no}
 use Rattle.file_links.proofs.no_link.Met as no-thm
 use Rattle.link_table.proofs.Laws.{chosen}
-use Rattle.link_table.proofs.Walk.{envOf, Walked, ends, meets, stands, allocs-all, frees-all, var, flag, owned-bool, twofold, token, answers}
+use Rattle.walk.proofs.Walk.{envOf, Walked, ends, meets, stands, allocs-all, frees-all, var, flag, owned-bool, twofold, token, answers}
 use Rattle.link_table.proofs.Table.{mach, IsLink, typed-link, owned-link}
 use Rattle.link_table.proofs.first_link as first-link
 use Rattle.link_table.proofs.first_link.Symbol as first-def

@@ -44,7 +44,7 @@ use Rattle.file_links.proofs.has_name.Symbol as has-def
 use Rattle.file_links.proofs.has_name.Symbol.{name as #has}
 use Rattle.file_links.proofs.has_name.Met as has-thm
 use Rattle.link_table.proofs.Laws.{linkAt, search as searchOf, Stops, stops-past, stops-here, goes-on}
-use Rattle.link_table.proofs.Walk.{after, Places, envOf, locals, Walked, ends, meets, stands, Turned, allocs-all, frees-all, var, part, sets, owned-bool, answers}
+use Rattle.walk.proofs.Walk.{after, Places, envOf, locals, Walked, ends, meets, stands, Turned, allocs-all, frees-all, var, part, sets, owned-bool, answers}
 use Rattle.link_table.proofs.Table.{mach, IsLink, Shared, Upto, Nearer, Nearer-wf, next, nearer, index-fits, place-fits, typed-link, owned-link, copies-link}
 use Rattle.link_table.proofs.first_link.Key.{name as #entry}
 use Rattle.link_table.proofs.first_link as entry

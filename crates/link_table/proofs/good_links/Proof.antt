@@ -41,7 +41,7 @@ use Rattle.file_links.proofs.good_link.Symbol as good-def
 use Rattle.file_links.proofs.good_link.Symbol.{name as #good}
 use Rattle.file_links.proofs.good_link.Met as good-thm
 use Rattle.link_table.proofs.Laws.{linkAt, all-good, one-bad, good-on}
-use Rattle.link_table.proofs.Walk.{after, Places, envOf, locals, Walked, ends, meets, stands, Turned, allocs-all, frees-all, var, flag, part, sets, twofold, token, answers}
+use Rattle.walk.proofs.Walk.{after, Places, envOf, locals, Walked, ends, meets, stands, Turned, allocs-all, frees-all, var, flag, part, sets, twofold, token, answers}
 use Rattle.link_table.proofs.Table.{mach, IsLink, Shared, Upto, Nearer, Nearer-wf, next, nearer, index-fits, place-fits, typed-link, owned-link, copies-link}
 use Rattle.link_table.proofs.good_links.Key.{name as #entry}
 use Rattle.link_table.proofs.good_links as entry

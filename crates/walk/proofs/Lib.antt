@@ -1,0 +1,4 @@
+pub mod Walk
+pub mod Begin
+pub mod Update
+pub mod Entries
