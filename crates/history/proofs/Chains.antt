@@ -16,7 +16,8 @@ use Rattle.usn_record.specs.Layout.{Record, lengthOf, inVersion}
 use Rattle.journal.specs.Boundary.{recordsAfter}
 use Rattle.journal_page.specs.declared.Filter.{Filter}
 use Rattle.journal_page.specs.Select.{wanted, selects}
-use Rattle.journal_page.specs.Page.{fits, Page, pageStep, pageOf, empty}
+use Rattle.kept_writer.specs.Kept.{fits}
+use Rattle.journal_page.specs.Page.{Page, pageStep, pageOf, empty}
 use Rattle.history.specs.Reading.{Alike}
 use Rattle.history.specs.Demand.{keep, filter, between, above}
 use Rattle.history.proofs.Links.{Chain, chain-le, link-rises, link-short}

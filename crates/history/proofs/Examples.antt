@@ -20,7 +20,8 @@ use Rattle.journal_post.specs.Post.{postedName, recordOf}
 use Rattle.journal_page.specs.declared.Filter.{Filter}
 use Rattle.journal_read.specs.Input.{argumentCheck}
 use Rattle.journal_page.specs.Select.{wanted}
-use Rattle.journal_page.specs.Page.{fits, pageOf, pageReply}
+use Rattle.kept_writer.specs.Kept.{fits}
+use Rattle.journal_page.specs.Page.{pageOf, pageReply}
 use Rattle.journal_read.specs.Read.{isDeleted, origin, deletedCheck, readAnswer}
 use Rattle.history.specs.Calls.{Read, Posting, create, post, read, Journal, replyTo, statusOf, next, runs, Widths, AllTyped}
 use Rattle.history.specs.Log.{History, posted, opened, isPosted, shed, added, notePost, notes}
