@@ -41,17 +41,5 @@ returns-2 c =
 pub put-signed-spec : {M : Type 1} → statement M
 put-signed-spec =
     tie.close
-    (tie.spec
-    (λ c κs. omega arith)
-    (λ c. omega arith)
-    returns
-    (λ c. omega arith)
-    (λ c. omega arith)
-    (λ c. omega arith)
-    sub-put-decimal
-    part-put-decimal-start
-    (λ c. omega arith)
-    put-decimal-requires-2
-    (λ c. omega arith)
-    same-length-2
-    returns-2)
+    (tie.spec (λ c κs. omega arith) (λ c. omega arith) returns (λ c. omega arith) (λ c. omega arith) (λ c. omega arith) sub-put-decimal
+    part-put-decimal-start (λ c. omega arith) put-decimal-requires-2 (λ c. omega arith) same-length-2 returns-2)

@@ -16,15 +16,5 @@ returns-3 c = tt
 pub call-spec : {M : Type 1} → statement M
 call-spec =
     tie.close
-    (tie.spec
-    (λ c κs. omega arith)
-    (λ c κs. omega arith)
-    (λ c κs. omega arith)
-    (λ c κs. omega arith)
-    (λ c κs. omega arith)
-    (λ c. omega arith)
-    returns
-    (λ c. omega arith)
-    returns-2
-    (λ c. omega arith)
-    returns-3)
+    (tie.spec (λ c κs. omega arith) (λ c κs. omega arith) (λ c κs. omega arith) (λ c κs. omega arith) (λ c κs. omega arith) (λ c. omega arith) returns
+    (λ c. omega arith) returns-2 (λ c. omega arith) returns-3)

@@ -15,19 +15,6 @@ slice-aggregate-get-reparse-point-2 c = sym (length-take-le _ _ (omega arith))
 pub reparse-spec : {M : Type 1} → statement M
 reparse-spec =
     tie.close
-    (tie.spec
-    (λ c κs. omega arith)
-    (λ c κs. omega arith)
-    (λ c κs. omega arith)
-    (λ c κs. omega arith)
-    (λ c κs. omega arith)
-    (λ c κs. omega arith)
-    (λ c κs. omega arith)
-    slice-aggregate-get-reparse-point
-    (λ c. omega arith)
-    slice-aggregate-get-reparse-point-2
-    (λ c κs. omega arith)
-    (λ c. omega arith)
-    (λ c κs. omega arith)
-    (λ c. omega arith)
-    (λ c. omega arith))
+    (tie.spec (λ c κs. omega arith) (λ c κs. omega arith) (λ c κs. omega arith) (λ c κs. omega arith) (λ c κs. omega arith) (λ c κs. omega arith)
+    (λ c κs. omega arith) slice-aggregate-get-reparse-point (λ c. omega arith) slice-aggregate-get-reparse-point-2 (λ c κs. omega arith)
+    (λ c. omega arith) (λ c κs. omega arith) (λ c. omega arith) (λ c. omega arith))

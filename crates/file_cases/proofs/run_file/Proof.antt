@@ -15,11 +15,5 @@ returns c = tt
 pub run-file-spec : {M : Type 1} → statement M
 run-file-spec =
     tie.close
-    (tie.spec
-    (λ c κs. omega arith)
-    (λ c. omega arith)
-    (λ c κs. omega arith)
-    (λ c. omega arith)
-    slice-aggregate-run-rows
-    (λ c κs. omega arith)
+    (tie.spec (λ c κs. omega arith) (λ c. omega arith) (λ c κs. omega arith) (λ c. omega arith) slice-aggregate-run-rows (λ c κs. omega arith)
     returns)

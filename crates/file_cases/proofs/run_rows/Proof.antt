@@ -24,27 +24,7 @@ returns-3 c = tt
 pub run-rows-spec : {M : Type 1} → statement M
 run-rows-spec =
     tie.close
-    (tie.spec
-    returns
-    (λ c κs. omega arith)
-    (λ c. omega arith)
-    (λ c. omega arith)
-    returns-2
-    (λ c κs. omega arith)
-    (λ c. omega arith)
-    (λ c κs. omega arith)
-    (λ c κs. omega arith)
-    (λ c κs. omega arith)
-    (λ c κs. omega arith)
-    (λ c. omega arith)
-    (λ c. omega arith)
-    (λ c. omega arith)
-    (λ c. omega arith)
-    (λ c. omega arith)
-    (λ c. omega arith)
-    (λ c. omega arith)
-    slice-aggregate-run
-    (λ c. omega arith)
-    slice-aggregate-run-2
-    (λ c κs. omega arith)
-    returns-3)
+    (tie.spec returns (λ c κs. omega arith) (λ c. omega arith) (λ c. omega arith) returns-2 (λ c κs. omega arith) (λ c. omega arith)
+    (λ c κs. omega arith) (λ c κs. omega arith) (λ c κs. omega arith) (λ c κs. omega arith) (λ c. omega arith) (λ c. omega arith) (λ c. omega arith)
+    (λ c. omega arith) (λ c. omega arith) (λ c. omega arith) (λ c. omega arith) slice-aggregate-run (λ c. omega arith) slice-aggregate-run-2
+    (λ c κs. omega arith) returns-3)

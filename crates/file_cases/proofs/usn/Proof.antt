@@ -32,19 +32,6 @@ slice-aggregate-usn-of-3 c = sym (length-take-le _ _ (omega (arith, few (c .befo
 pub usn-spec : {M : Type 1} → statement M
 usn-spec =
     tie.close
-    (tie.spec
-    (λ c. omega arith)
-    (λ c κs. omega arith)
-    (λ c. omega arith)
-    (λ c κs. omega arith)
-    (λ c. omega arith)
-    (λ c κs. omega arith)
-    array-share-prefix-places
-    slice-aggregate-usn-of
-    array-share-prefix-lengths
-    slice-aggregate-usn-of-2
-    array-share-prefix-shorts
-    slice-aggregate-usn-of-3
-    (λ c κs. omega arith)
-    (λ c. omega arith)
-    (λ c. omega arith))
+    (tie.spec (λ c. omega arith) (λ c κs. omega arith) (λ c. omega arith) (λ c κs. omega arith) (λ c. omega arith) (λ c κs. omega arith)
+    array-share-prefix-places slice-aggregate-usn-of array-share-prefix-lengths slice-aggregate-usn-of-2 array-share-prefix-shorts
+    slice-aggregate-usn-of-3 (λ c κs. omega arith) (λ c. omega arith) (λ c. omega arith))

@@ -18,26 +18,7 @@ slice-aggregate-read-file-usn-3 c = sym (length-take-le _ _ (omega arith))
 pub usn-of-spec : {M : Type 1} → statement M
 usn-of-spec =
     tie.close
-    (tie.spec
-    (λ c. omega arith)
-    (λ c κs. omega arith)
-    (λ c κs. omega arith)
-    (λ c κs. omega arith)
-    (λ c κs. omega arith)
-    (λ c κs. omega arith)
-    (λ c κs. omega arith)
-    (λ c κs. omega arith)
-    (λ c κs. omega arith)
-    (λ c κs. omega arith)
-    (λ c κs. omega arith)
-    (λ c κs. omega arith)
-    slice-aggregate-read-file-usn
-    (λ c. omega arith)
-    slice-aggregate-read-file-usn-2
-    (λ c. omega arith)
-    slice-aggregate-read-file-usn-3
-    (λ c κs. omega arith)
-    (λ c. omega arith)
-    (λ c κs. omega arith)
-    (λ c. omega arith)
-    (λ c. omega arith))
+    (tie.spec (λ c. omega arith) (λ c κs. omega arith) (λ c κs. omega arith) (λ c κs. omega arith) (λ c κs. omega arith) (λ c κs. omega arith)
+    (λ c κs. omega arith) (λ c κs. omega arith) (λ c κs. omega arith) (λ c κs. omega arith) (λ c κs. omega arith) (λ c κs. omega arith)
+    slice-aggregate-read-file-usn (λ c. omega arith) slice-aggregate-read-file-usn-2 (λ c. omega arith) slice-aggregate-read-file-usn-3
+    (λ c κs. omega arith) (λ c. omega arith) (λ c κs. omega arith) (λ c. omega arith) (λ c. omega arith))

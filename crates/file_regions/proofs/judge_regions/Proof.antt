@@ -80,15 +80,5 @@ returns-6 c =
 pub judge-regions-spec : {M : Type 1} → statement M
 judge-regions-spec =
     tie.close
-    (tie.spec
-    returns
-    (λ c κs. omega arith)
-    returns-2
-    returns-3
-    read-asked-requires
-    (λ c κs. omega arith)
-    (λ c. omega arith)
-    (λ c. omega arith)
-    returns-4
-    returns-5
-    returns-6)
+    (tie.spec returns (λ c κs. omega arith) returns-2 returns-3 read-asked-requires (λ c κs. omega arith) (λ c. omega arith) (λ c. omega arith)
+    returns-4 returns-5 returns-6)

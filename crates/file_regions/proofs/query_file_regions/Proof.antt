@@ -53,13 +53,5 @@ returns-2 c =
 pub query-file-regions-spec : {M : Type 1} → statement M
 query-file-regions-spec =
     tie.close
-    (tie.spec
-    (λ c κs. omega arith)
-    (λ c. omega arith)
-    (λ c κs. omega arith)
-    (λ c. omega arith)
-    read-asked-requires
-    reply-regions-requires
-    returns
-    (λ c. omega arith)
-    returns-2)
+    (tie.spec (λ c κs. omega arith) (λ c. omega arith) (λ c κs. omega arith) (λ c. omega arith) read-asked-requires reply-regions-requires returns
+    (λ c. omega arith) returns-2)

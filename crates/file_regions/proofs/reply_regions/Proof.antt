@@ -72,24 +72,6 @@ returns-4 c =
 pub reply-regions-spec : {M : Type 1} → statement M
 reply-regions-spec =
     tie.close
-    (tie.spec
-    (λ c κs. omega arith)
-    (λ c κs. omega arith)
-    returns
-    first-region-requires
-    second-due-requires
-    (λ c κs. omega arith)
-    (λ c. omega arith)
-    (λ c. omega arith)
-    (λ c. omega arith)
-    (λ c κs. omega arith)
-    (λ c κs. omega arith)
-    (λ c. omega arith)
-    returns-2
-    (λ c κs. omega arith)
-    returns-3
-    second-region-requires
-    (λ c κs. omega arith)
-    (λ c κs. omega arith)
-    (λ c. omega arith)
-    returns-4)
+    (tie.spec (λ c κs. omega arith) (λ c κs. omega arith) returns first-region-requires second-due-requires (λ c κs. omega arith) (λ c. omega arith)
+    (λ c. omega arith) (λ c. omega arith) (λ c κs. omega arith) (λ c κs. omega arith) (λ c. omega arith) returns-2 (λ c κs. omega arith) returns-3
+    second-region-requires (λ c κs. omega arith) (λ c κs. omega arith) (λ c. omega arith) returns-4)

@@ -60,15 +60,5 @@ returns-6 c =
 pub judge-file-spec : {M : Type 1} → statement M
 judge-file-spec =
     tie.close
-    (tie.spec
-    returns
-    returns-2
-    returns-3
-    (λ c κs. omega arith)
-    (λ c. omega arith)
-    (λ c. omega arith)
-    (λ c κs. omega arith)
-    (λ c. omega arith)
-    returns-4
-    returns-5
-    returns-6)
+    (tie.spec returns returns-2 returns-3 (λ c κs. omega arith) (λ c. omega arith) (λ c. omega arith) (λ c κs. omega arith) (λ c. omega arith)
+    returns-4 returns-5 returns-6)

@@ -43,13 +43,5 @@ returns-2 c =
 pub read-chosen-spec : {M : Type 1} → statement M
 read-chosen-spec =
     tie.close
-    (tie.spec
-    (λ c κs. omega arith)
-    (λ c. omega arith)
-    (λ c κs. omega arith)
-    (λ c. omega arith)
-    (λ c κs. omega arith)
-    write-file-requires
-    returns
-    (λ c. omega arith)
-    returns-2)
+    (tie.spec (λ c κs. omega arith) (λ c. omega arith) (λ c κs. omega arith) (λ c. omega arith) (λ c κs. omega arith) write-file-requires returns
+    (λ c. omega arith) returns-2)

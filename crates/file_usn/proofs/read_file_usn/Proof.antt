@@ -64,13 +64,5 @@ returns-2 c =
 pub read-file-usn-spec : {M : Type 1} → statement M
 read-file-usn-spec =
     tie.close
-    (tie.spec
-    (λ c κs. omega arith)
-    (λ c κs. omega arith)
-    read-chosen-requires
-    (λ c. omega arith)
-    returns
-    choose-link-requires
-    read-chosen-requires-2
-    (λ c. omega arith)
-    returns-2)
+    (tie.spec (λ c κs. omega arith) (λ c κs. omega arith) read-chosen-requires (λ c. omega arith) returns choose-link-requires read-chosen-requires-2
+    (λ c. omega arith) returns-2)

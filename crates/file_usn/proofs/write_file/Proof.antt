@@ -22,13 +22,5 @@ returns c =
 pub write-file-spec : {M : Type 1} → statement M
 write-file-spec =
     tie.close
-    (tie.spec
-    (λ c. omega arith)
-    (λ c. omega arith)
-    (λ c. omega arith)
-    (λ c. omega arith)
-    (λ c. omega arith)
-    part-write-record-end
-    (λ c κs. omega arith)
-    (λ c. omega arith)
-    returns)
+    (tie.spec (λ c. omega arith) (λ c. omega arith) (λ c. omega arith) (λ c. omega arith) (λ c. omega arith) part-write-record-end
+    (λ c κs. omega arith) (λ c. omega arith) returns)

@@ -12,10 +12,4 @@ returns c = put-two (c .before .before .before .args .out .now) (c .before .hex-
 pub put-hex-byte-spec : {M : Type 1} → statement M
 put-hex-byte-spec =
     tie.close
-    (tie.spec
-    (λ c κs. omega arith)
-    (λ c. omega arith)
-    (λ c κs. omega arith)
-    (λ c. search needs)
-    (λ c. search needs)
-    returns)
+    (tie.spec (λ c κs. omega arith) (λ c. omega arith) (λ c κs. omega arith) (λ c. search needs) (λ c. search needs) returns)

@@ -26,16 +26,5 @@ returns-3 c = tt
 pub read-on-spec : {M : Type 1} → statement M
 read-on-spec =
     tie.close
-    (tie.spec
-    Inv-loop
-    μ-loop
-    (λ c. omega arith)
-    (λ c. omega arith)
-    (λ c κs. omega arith)
-    returns
-    (λ c κs. omega arith)
-    returns-2
-    (λ c. omega arith)
-    (λ c. omega arith)
-    loop-again
-    returns-3)
+    (tie.spec Inv-loop μ-loop (λ c. omega arith) (λ c. omega arith) (λ c κs. omega arith) returns (λ c κs. omega arith) returns-2 (λ c. omega arith)
+    (λ c. omega arith) loop-again returns-3)

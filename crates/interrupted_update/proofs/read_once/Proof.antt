@@ -52,29 +52,7 @@ slice-aggregate-print c = sym (length-take-le _ _ (listed (c .before .before)))
 pub read-once-spec : {M : Type 1} → statement M
 read-once-spec =
     tie.close
-    (tie.spec
-    (λ c. omega arith)
-    (λ c κs. omega arith)
-    (λ c. omega arith)
-    (λ c. omega arith)
-    (λ c. omega arith)
-    (λ c κs. omega arith)
-    (λ c. omega arith)
-    (λ c. omega arith)
-    part-input-end-2
-    (λ c κs. omega arith)
-    slice-aggregate-read-journal
-    (λ c. omega arith)
-    (λ c κs. omega arith)
-    (λ c κs. omega arith)
-    (λ c. omega arith)
-    (λ c. omega arith)
-    array-share-prefix-output
-    slice-aggregate-list-reply-2
-    (λ c κs. omega arith)
-    array-share-prefix-text
-    slice-aggregate-print
-    (λ c κs. omega arith)
-    (λ c. omega arith)
-    (λ c κs. omega arith)
-    (λ c. omega arith))
+    (tie.spec (λ c. omega arith) (λ c κs. omega arith) (λ c. omega arith) (λ c. omega arith) (λ c. omega arith) (λ c κs. omega arith)
+    (λ c. omega arith) (λ c. omega arith) part-input-end-2 (λ c κs. omega arith) slice-aggregate-read-journal (λ c. omega arith) (λ c κs. omega arith)
+    (λ c κs. omega arith) (λ c. omega arith) (λ c. omega arith) array-share-prefix-output slice-aggregate-list-reply-2 (λ c κs. omega arith)
+    array-share-prefix-text slice-aggregate-print (λ c κs. omega arith) (λ c. omega arith) (λ c κs. omega arith) (λ c. omega arith))

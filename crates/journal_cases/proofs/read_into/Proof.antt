@@ -16,16 +16,6 @@ slice-aggregate-read-journal-2 c = sym (length-take-le _ _ (omega arith))
 pub read-into-spec : {M : Type 1} → statement M
 read-into-spec =
     tie.close
-    (tie.spec
-    (λ c. search needs)
-    (λ c κs. search needs)
-    (λ c κs. search needs)
-    (λ c κs. search needs)
-    (λ c. search needs)
-    slice-aggregate-read-journal
-    (λ c. search needs)
-    slice-aggregate-read-journal-2
-    (λ c κs. search needs)
-    (λ c κs. search needs)
-    (λ c. search needs)
+    (tie.spec (λ c. search needs) (λ c κs. search needs) (λ c κs. search needs) (λ c κs. search needs) (λ c. search needs)
+    slice-aggregate-read-journal (λ c. search needs) slice-aggregate-read-journal-2 (λ c κs. search needs) (λ c κs. search needs) (λ c. search needs)
     (λ c. search needs))

@@ -45,14 +45,5 @@ returns-2 c =
 pub get-reparse-point-spec : {M : Type 1} → statement M
 get-reparse-point-spec =
     tie.close
-    (tie.spec
-    judge-reparse-requires
-    (λ c. omega arith)
-    refused-requires
-    (λ c. omega arith)
-    (λ c. search needs)
-    put-reparse-requires
-    success-requires
-    returns
-    (λ c. omega arith)
-    returns-2)
+    (tie.spec judge-reparse-requires (λ c. omega arith) refused-requires (λ c. omega arith) (λ c. search needs) put-reparse-requires success-requires
+    returns (λ c. omega arith) returns-2)

@@ -65,12 +65,4 @@ returns-6 c =
 pub judge-reparse-spec : {M : Type 1} → statement M
 judge-reparse-spec =
     tie.close
-    (tie.spec
-    returns
-    returns-2
-    most-data-requires
-    returns-3
-    returns-4
-    header-length-requires
-    returns-5
-    returns-6)
+    (tie.spec returns returns-2 most-data-requires returns-3 returns-4 header-length-requires returns-5 returns-6)

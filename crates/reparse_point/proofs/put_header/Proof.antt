@@ -51,17 +51,5 @@ returns-2 c =
 pub put-header-spec : {M : Type 1} → statement M
 put-header-spec =
     tie.close
-    (tie.spec
-    put-requires
-    sub-put-two
-    part-put-two-start
-    (λ c. omega arith)
-    put-two-requires
-    (λ c. omega arith)
-    returns
-    sub-copy
-    part-copy-start
-    (λ c. omega arith)
-    copy-requires
-    (λ c. omega arith)
-    returns-2)
+    (tie.spec put-requires sub-put-two part-put-two-start (λ c. omega arith) put-two-requires (λ c. omega arith) returns sub-copy part-copy-start
+    (λ c. omega arith) copy-requires (λ c. omega arith) returns-2)

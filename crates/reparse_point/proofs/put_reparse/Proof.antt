@@ -59,17 +59,5 @@ returns c =
 pub put-reparse-spec : {M : Type 1} → statement M
 put-reparse-spec =
     tie.close
-    (tie.spec
-    header-length-requires
-    (λ c. omega arith)
-    put-header-requires
-    (λ c. omega arith)
-    (λ c. omega arith)
-    (λ c. omega arith)
-    (λ c. omega arith)
-    (λ c. omega arith)
-    part-copy-end-2
-    copy-requires
-    add-result
-    (λ c. omega arith)
-    returns)
+    (tie.spec header-length-requires (λ c. omega arith) put-header-requires (λ c. omega arith) (λ c. omega arith) (λ c. omega arith)
+    (λ c. omega arith) (λ c. omega arith) part-copy-end-2 copy-requires add-result (λ c. omega arith) returns)
