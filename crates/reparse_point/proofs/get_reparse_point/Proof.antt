@@ -2,7 +2,6 @@
 -- Assumes nothing.
 use mathlib.Core.Path.{refl, sym, _∙_}
 use native.Mathlib.Omega.{arith}
-use borrow.Author.Needs.{needs}
 use Rattle.reparse_point.proofs.Writing.{guid-size, passed-fits, reply-given, reply-refused}
 use Rattle.reparse_point.proofs.get_reparse_point.Statement.{statement}
 use Rattle.reparse_point.proofs.get_reparse_point.Tie as tie
@@ -45,5 +44,5 @@ returns-2 c =
 pub get-reparse-point-spec : {M : Type 1} → statement M
 get-reparse-point-spec =
     tie.close
-    (tie.spec judge-reparse-requires (λ c. omega arith) refused-requires (λ c. omega arith) (λ c. search needs) put-reparse-requires success-requires
+    (tie.spec judge-reparse-requires (λ c. omega arith) refused-requires (λ c. omega arith) (λ c. omega arith) put-reparse-requires success-requires
     returns (λ c. omega arith) returns-2)
