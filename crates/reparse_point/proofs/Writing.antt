@@ -1,7 +1,6 @@
 -- The header and the data in the output, and the reply that they make.
 -- Assumes nothing.
 use mathlib.Core.Path.{_≡_, refl, sym, ap, ap₂, _∙_}
-use mathlib.Core.Logic.{_⊎_, inl, inr}
 use mathlib.Core.Bool.{Bool, true, false, not}
 use mathlib.Core.List.{List, [], _∷_, _++_, append-nil}
 use mathlib.Core.Option.{none}
@@ -77,34 +76,35 @@ module _ (tag n : ℕ) (guid o out last : List ℕ) (h : headerLength tag ≤ le
 
 -- ---- the data behind it
 
--- as much as fits: the shorter of the two
-pub taken-part : (bytes : List ℕ) (room n : ℕ) → ((length bytes < room) × (n ≡ length bytes)) ⊎ ((room ≤ length bytes) × (n ≡ room))
-    → (n ≤ room) × (n ≤ length bytes) × (take n bytes ≡ take room bytes) × (length (take room bytes) ≡ n)
-taken-part bytes room n (inl (h, e)) =
-    let a : take n bytes ≡ bytes = take-all n bytes (omega (arith, e)) in
-    let b : take room bytes ≡ bytes = take-all room bytes (omega (arith, h)) in
-    (omega (arith, h, e), omega (arith, e), a ∙ sym b, ap length b ∙ sym e)
-taken-part bytes room n (inr (h, e)) =
-    (omega (arith, e), omega (arith, h, e), ap (λ (k : ℕ). take k bytes) e, length-take-le room bytes h ∙ sym e)
+-- n bytes are as much as fits: the shorter of the two
+abbrev pub Fitting : List ℕ → ℕ → ℕ → Type 0
+Fitting bytes room n = (n ≤ room) × (n ≤ length bytes) × (take n bytes ≡ take room bytes) × (length (take room bytes) ≡ n)
+
+module _ (bytes : List ℕ) (room n : ℕ) where
+  pub fits-whole : length bytes < room → n ≡ length bytes → Fitting bytes room n
+  fits-whole h e =
+      let b : take room bytes ≡ bytes = take-all room bytes (omega (arith, h)) in
+      (omega (arith, h, e), omega (arith, e), take-all n bytes (omega (arith, e)) ∙ sym b, ap length b ∙ sym e)
+
+  pub fits-part : room ≤ length bytes → n ≡ room → Fitting bytes room n
+  fits-part h e = (omega (arith, e), omega (arith, h, e), ap (λ (k : ℕ). take k bytes) e, length-take-le room bytes h ∙ sym e)
 
 -- it fits into the rest of the output
-pub copy-fits : (bytes o out : List ℕ) (at n : ℕ) → length out ≡ length o → ((length bytes < length o - at) × (n ≡ length bytes)) ⊎ ((length o - at ≤ length bytes) × (n ≡ length o - at))
+pub copy-fits : (bytes o out : List ℕ) (at n : ℕ) → length out ≡ length o → Fitting bytes (length o - at) n
     → length (take (n - 0) bytes) ≤ length (lent at out)
-copy-fits bytes o out at n e c =
-    let k = taken-part bytes (length o - at) n c in
+copy-fits bytes o out at n e k =
     let z : n - 0 ≡ n = omega arith in
     let l : length (take (n - 0) bytes) ≡ n = ap (λ (i : ℕ). length (take i bytes)) z ∙ length-take-le n bytes (k .1) in
     let m : length (lent at out) ≡ length out - at = length-take-le (length out - at) (drop at out) (omega (arith, length-drop at out)) in
     omega (arith, l, m, e, k .0)
 
 module _ (tag : ℕ) (guid bytes o out last : List ℕ) (at n : ℕ) (g : length guid ≡ 16) (h : headerLength tag ≤ length o) (a : at ≡ headerLength tag)
-    (c : ((length bytes < length o - at) × (n ≡ length bytes)) ⊎ ((length o - at ≤ length bytes) × (n ≡ length o - at)))
+    (k : Fitting bytes (length o - at) n)
     (e : out ≡ reparseHeader tag guid (length bytes) ++ drop (headerLength tag) o)
     (q : last ≡ take (n - 0) bytes ++ drop (length (take (n - 0) bytes)) (lent at out)) where
   pub put-data : (at + n ≡ headerLength tag + length (take (length o - headerLength tag) bytes))
       × (back at out last ≡ (reparseHeader tag guid (length bytes) ++ take (length o - headerLength tag) bytes) ++ drop (at + n) o)
   put-data =
-      let k = taken-part bytes (length o - at) n c in
       let z : n - 0 ≡ n = omega arith in
       let l : length (take n bytes) ≡ n = ap length (k .2) ∙ k .3 in
       let w : last ≡ take n bytes ++ drop n (lent at out) =
