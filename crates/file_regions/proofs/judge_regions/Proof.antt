@@ -61,7 +61,7 @@ passed m =
     rw (read k, told-passed (askedCheck (askedOf (start k .args .input .now))) (sym (m .enum-told .given .1) ∙ asked j))
 
 returns-4 : tie.Need-returns-4
-returns-4 c = rw (passed (c .before), lt-leb _ _ (c .if5 .taken))
+returns-4 c = rw (passed (c .before), lt-leb 40 (start (c .before .before .before .before .before) .args .room) (omega (arith, c .if5 .taken)))
 
 returns-5 : tie.Need-returns-5
 returns-5 c =

@@ -4,7 +4,7 @@ use mathlib.Core.Path.{_≡_, refl, sym, _∙_}
 use mathlib.Core.Bool.{true, false}
 use mathlib.Core.List.{append-nil}
 use native.Mathlib.Omega.{arith}
-use lib.ListN.{length-append}
+use lib.ListN.{length, length-append}
 use borrow.Author.Tests.{not-true, not-false, le-leb, lt-leb}
 use Rattle.file_regions.specs.Regions.{isOutside, secondDue, listBytes, answerRegions, regionsAnswer}
 use Rattle.file_regions.proofs.Writing.{length-header, length-region, one-put, inside}
@@ -44,7 +44,9 @@ returns-3 : tie.Need-returns-3
 unfolding regionsAnswer answerRegions
 returns-3 c =
     let k = c .before .before in
-    rw (is-inside (k .before .before .before), is-two k, lt-leb 64 _ (c .before .if3 .taken)) (record { answered = c .refused .ensures; output = refl })
+    let i = k .before .before .before in
+    let o = i .before .before .before .args .output .now in
+    rw (is-inside i, is-two k, lt-leb 64 (length o) (omega (arith, c .before .if3 .taken))) (record { answered = c .refused .ensures; output = refl })
 
 returns-4 : tie.Need-returns-4
 unfolding regionsAnswer answerRegions listBytes

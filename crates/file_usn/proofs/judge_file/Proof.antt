@@ -24,13 +24,16 @@ returns c = rw (eq-eqb _ _ (c .if1 .taken))
 
 returns-2 : tie.Need-returns-2
 unfolding fileCheck
-returns-2 c = rw (ne-eqb _ _ (c .before .before .if1 .left), le-ltb _ _ (c .if2 .taken))
+returns-2 c =
+    let s = c .before .before in
+    rw (ne-eqb _ _ (s .if1 .left), le-ltb (s .before .before .before .args .f .usn) (2 ^ 63) (omega (arith, c .if2 .taken)))
 
 returns-3 : tie.Need-returns-3
 unfolding fileCheck
 returns-3 c =
     let s = c .before .before .before in
-    rw (ne-eqb _ _ (s .if1 .left), lt-ltb _ _ (c .before .if2 .left), not-true (s .before .before .before .args .table) (c .if3 .taken))
+    let a = s .before .before .before .args in
+    rw (ne-eqb _ _ (s .if1 .left), lt-ltb (a .f .usn) (2 ^ 63) (omega (arith, c .before .if2 .left)), not-true (a .table) (c .if3 .taken))
 
 abbrev start : tie.Else3 → tie.Start
 start t = t .before .before .before .before .before .before
@@ -41,7 +44,7 @@ sound : (t : tie.Else3) → let a = start t .args in let input = a .input .now i
 unfolding fileCheck
 sound t =
     let u = t .before in
-    let k : ltb (start t .args .f .usn) (2 ^ 63) && start t .args .table ≡ true = rw (lt-ltb _ _ (u .if2 .left)) (not-false _ (t .if3 .left)) in
+    let k : ltb (start t .args .f .usn) (2 ^ 63) && start t .args .table ≡ true = rw (lt-ltb (start t .args .f .usn) (2 ^ 63) (omega (arith, u .if2 .left))) (not-false _ (t .if3 .left)) in
     rw (ne-eqb _ _ (u .before .before .if1 .left), k)
 
 -- the choice is that of the versions
@@ -64,7 +67,9 @@ left o =
     rw (sound (m .before .before .before), used m .0, ← (used m .1), ← (o .name-offset .ensures .0))
 
 returns-4 : tie.Need-returns-4
-returns-4 c = rw (left (c .before), lt-leb _ _ (c .if4 .taken))
+returns-4 c =
+    let o = c .before in
+    rw (left o, lt-leb (o .name-offset .result + 4) (start (o .before .before .before .before .before) .args .room) (omega (arith, c .if4 .taken)))
 
 returns-5 : tie.Need-returns-5
 returns-5 c =

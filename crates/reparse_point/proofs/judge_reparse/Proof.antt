@@ -2,6 +2,7 @@
 -- Assumes nothing.
 use mathlib.Core.Path.{_≡_}
 use mathlib.Core.Bool.{not}
+use native.Mathlib.Omega.{arith}
 use lib.Dec.{leb, eqb}
 use lib.ListN.{length}
 use borrow.Author.Tests.{le-leb, lt-leb, eq-eqb, ne-eqb}
@@ -31,8 +32,11 @@ upgraded p f e = rw (ne-eqb _ _ (p .before .before .if1 .left), ne-eqb _ _ (p .i
 returns-3 : tie.Need-returns-3
 returns-3 c f e = let m = c .before in rw (upgraded (m .before) f e, ← (m .most-data .ensures), lt-leb _ _ (c .if3 .taken))
 
+abbrev start : tie.Else3 → tie.Start
+start d = d .before .before .before .before .before .before .before
+
 -- behind the data
-short : (d : tie.Else3) (f : FileRecord) → let a = d .before .before .before .before .before .before .before .args in f .tag ≡ a .tag
+short : (d : tie.Else3) (f : FileRecord) → let a = start d .args in f .tag ≡ a .tag
     → reparseCheck (a .v) f (a .bytes .now) (a .room)
     ≡ else (unless (not (eqb (a .tag) 0)) NotAReparsePoint) (unless (leb (headerLength (a .tag)) (a .room)) BufferTooSmall)
 short d f e = let m = d .before in rw (upgraded (m .before) f e, ← (m .most-data .ensures), le-leb _ _ (d .if3 .left))
@@ -43,7 +47,7 @@ returns-4 c f e = rw (short (c .before) f e, eq-eqb _ _ (c .if4 .taken))
 returns-5 : tie.Need-returns-5
 returns-5 c f e =
     let h = c .before in
-    rw (short (h .before .before) f e, ne-eqb _ _ (h .before .if4 .left), ← (h .header-length .ensures .0), lt-leb _ _ (c .if5 .taken))
+    rw (short (h .before .before) f e, ne-eqb _ _ (h .before .if4 .left), ← (h .header-length .ensures .0), lt-leb (h .header-length .result) (start (h .before .before) .args .room) (omega (arith, c .if5 .taken)))
 
 returns-6 : tie.Need-returns-6
 returns-6 c f e =
