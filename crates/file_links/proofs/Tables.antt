@@ -9,7 +9,7 @@ use native.Mathlib.Numerals.{add-one}
 use lib.Dec.{leb, eqb}
 use lib.ListN.{length, take, drop, getD, drop-of-length-le}
 use lib.Seq.{drop-cons}
-use borrow.Author.Tests.{eq-eqb, ne-eqb, eqb-true, le-leb, lt-leb, leb-true, not-true, not-false}
+use borrow.Author.Tests.{eqb-true, le-leb, lt-leb, leb-true, not-true, not-false}
 use Rattle.le.proofs.Runs.{and-left, and-right}
 use Rattle.usn_record.specs.Layout.{goodName}
 use Rattle.file_links.specs.declared.Link.{Link}
@@ -52,19 +52,7 @@ module _ (pool places lengths shorts : List ℕ) where
   abbrev pub goodFrom : ℕ → Bool
   goodFrom i = goodLinks pool (linksOf (drop i places) (drop i lengths) (drop i shorts))
 
-  pub lengths-differ : (length lengths ≡ length places → ⊥) → false ≡ goodTable pool places lengths shorts
-  unfolding goodTable
-  lengths-differ h = rw (ne-eqb _ _ h)
-
-  pub shorts-differ : length lengths ≡ length places → (length shorts ≡ length places → ⊥) → false ≡ goodTable pool places lengths shorts
-  unfolding goodTable
-  shorts-differ a h = rw (eq-eqb _ _ a, ne-eqb _ _ h)
-
   module _ (a : length lengths ≡ length places) (b : length shorts ≡ length places) where
-    pub good-from-start : goodFrom 0 ≡ goodTable pool places lengths shorts
-    unfolding goodTable
-    good-from-start = rw (eq-eqb _ _ a, eq-eqb _ _ b)
-
     module _ (i : ℕ) (h : i < length places) (r : Bool) (e : r ≡ goodLink pool (linkAt places lengths shorts i)) where
       opened : goodFrom i ≡ r && goodFrom (i + 1)
       unfolding goodLinks linksOf goodLink

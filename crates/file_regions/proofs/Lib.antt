@@ -1,4 +1,2 @@
-pub mod Judging
-pub mod Dividing
 pub mod Writing
 pub mod Examples

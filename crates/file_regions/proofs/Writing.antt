@@ -1,29 +1,18 @@
--- The reply: what the writers leave in the output, and what each way through the control replies.
+-- The reply: what the writers leave in the output.
 -- Assumes nothing.
-use mathlib.Core.Path.{_≡_, refl, sym, ap, _∙_, subst}
+use mathlib.Core.Path.{_≡_, refl, ap, _∙_}
 use mathlib.Core.Bool.{Bool, true, false, _||_}
 use mathlib.Core.List.{List, [], _∷_, _++_, append-assoc, append-nil}
-use mathlib.Core.Option.{Option, none}
-use Prim.Native.Nat.{ℕ, _≤_, _<_}
+use Prim.Native.Nat.{ℕ, _≤_}
 use native.Mathlib.Omega.{arith}
 use lib.Dec.{ltb}
 use lib.ListN.{length, drop, length-append}
-use borrow.Author.Tests.{le-leb, lt-leb, ltb-false}
+use borrow.Author.Tests.{ltb-false}
 use Rattle.le.specs.Numbers.{encode}
 use Rattle.le.proofs.Numbers.{length-le, length-two}
 use Rattle.le.proofs.Tail.{lent, back, put-first, put-next}
-use Rattle.status.specs.declared.Status.{Status}
-use Rattle.status.specs.declared.Status.the-variants.{Success, BufferOverflow}
-use Rattle.status.specs.declared.Answer.{Answer}
-use Rattle.status.specs.declared.Judged.the-variants.{Passed, Refused}
-use Rattle.status.specs.Check.{judged}
-use Rattle.status.specs.Reply.{Reply, refuse, give, guard, answer, Replied}
-use Rattle.volume.specs.declared.Volume.{Volume}
-use Rattle.file_record.specs.declared.FileRecord.{FileRecord}
-use Rattle.file_regions.specs.declared.Asked.{Asked}
 use Rattle.file_regions.specs.declared.Region.{Region}
-use Rattle.file_regions.specs.Regions.{askedOf, regionsCheck, isOutside, firstRegion, secondDue, secondRegion, regionsHeader, regionBytes, listBytes, answerRegions, regionsAnswer, regionsReply}
-use Rattle.status.proofs.Checking.{told-refused, told-passed}
+use Rattle.file_regions.specs.Regions.{isOutside, regionsHeader, regionBytes}
 
 -- ---- the bytes
 
@@ -74,53 +63,3 @@ inside eof offset e = ltb-false eof offset (or-left (ltb eof offset) _ e)
     or-left : (a b : Bool) → a || b ≡ false → a ≡ false
     or-left true b k = k
     or-left false b k = refl
-
-module _ (f : FileRecord) (a : Asked) (o : List ℕ) (r : Answer) where
-  abbrev Answers : List ℕ → Type 0
-  Answers out = Replied (regionsAnswer f a (length o)) r o out
-
-  answers : (reply : Reply) (out : List ℕ) → regionsAnswer f a (length o) ≡ reply → Replied reply r o out → Answers out
-  answers reply out e p = subst (λ (y : Reply). Replied y r o out) (sym e) p
-
-  pub reply-outside : isOutside (f .eof) (a .offset) ≡ true → r ≡ record { status = Success; count = 0 } → Answers o
-  unfolding regionsAnswer
-  reply-outside e q = answers (give Success []) o (rw e) (record { answered = q; output = refl })
-
-  module _ (e : isOutside (f .eof) (a .offset) ≡ false) (first : Region) (d : first ≡ firstRegion (f .eof) (f .valid) a) where
-    pub reply-one : (out : List ℕ) → secondDue (f .eof) (f .valid) a ≡ false → 40 ≤ length o → out ≡ (regionsHeader 1 ++ regionBytes first) ++ drop 40 o
-        → r ≡ record { status = Success; count = 40 } → Answers out
-    unfolding regionsAnswer answerRegions listBytes
-    reply-one out k h p q =
-        answers (give Success (regionsHeader 1 ++ regionBytes first)) out (rw (e, k, ← d, le-leb 40 (length o) h, append-nil))
-        (record { answered = q ∙ simp (length-append, length-header, length-region); output = p ∙ simp (length-append, length-header, length-region) })
-
-    pub reply-overflow : secondDue (f .eof) (f .valid) a ≡ true → length o < 64 → r ≡ answer (refuse BufferOverflow) → Answers o
-    unfolding regionsAnswer answerRegions
-    reply-overflow k h q = answers (refuse BufferOverflow) o (rw (e, k, lt-leb 64 (length o) h)) (record { answered = q; output = refl })
-
-    pub reply-two : (second : Region) (out : List ℕ) → secondDue (f .eof) (f .valid) a ≡ true → second ≡ secondRegion (f .eof) (f .valid) a → 64 ≤ length o
-        → out ≡ (regionsHeader 2 ++ (regionBytes first ++ regionBytes second)) ++ drop 64 o → r ≡ record { status = Success; count = 64 } → Answers out
-    unfolding regionsAnswer answerRegions listBytes
-    reply-two second out k s h p q =
-        answers (give Success (regionsHeader 2 ++ (regionBytes first ++ regionBytes second))) out (rw (e, k, ← d, ← s, le-leb 64 (length o) h, append-nil))
-        (record { answered = q ∙ simp (length-append, length-header, length-region); output = p ∙ simp (length-append, length-header, length-region) })
-
--- ---- the whole control
-
-module _ (v : Volume) (f : FileRecord) (input o : List ℕ) (r : Answer) where
-  abbrev Queried : List ℕ → Type 0
-  Queried out = Replied (regionsReply v f input (length o)) r o out
-
-  guarded : (k : Option Status) → regionsCheck v f input (length o) ≡ k → regionsReply v f input (length o) ≡ guard k (regionsAnswer f (askedOf input) (length o))
-  unfolding regionsReply
-  guarded k e = ap (λ (x : Option Status). guard x (regionsAnswer f (askedOf input) (length o))) e
-
-  pub query-refused : (x : Status) → Refused x ≡ judged (regionsCheck v f input (length o)) → r ≡ answer (refuse x) → Queried o
-  query-refused x e q =
-      subst (λ (y : Reply). Replied y r o o) (sym (guarded _ (told-refused (regionsCheck v f input (length o)) x e))) (record { answered = q; output = refl })
-
-  pub query-passed : (a : Asked) (out : List ℕ) → Passed ≡ judged (regionsCheck v f input (length o)) → a ≡ askedOf input
-      → Replied (regionsAnswer f a (length o)) r o out → Queried out
-  query-passed a out e d p =
-      subst (λ (y : Reply). Replied y r o out)
-      (ap (λ (b : Asked). regionsAnswer f b (length o)) d ∙ sym (guarded none (told-passed (regionsCheck v f input (length o)) e))) p

@@ -10,7 +10,7 @@ use Rattle.status.specs.Reply.{Reply, refuse, give, answer}
 use Rattle.volume.specs.declared.Volume.{Volume}
 use Rattle.usn_record.specs.Layout.{layout}
 use Rattle.file_record.specs.declared.FileRecord.{FileRecord}
-use Rattle.file_links.specs.Links.{nameAt, linksOf, goodLinks, goodTable, firstOf, chosenLink}
+use Rattle.file_links.specs.Links.{linksOf, goodLinks, goodTable, firstOf}
 use Rattle.file_usn.specs.FileUsn.{fileCheck, fileAnswer, namedReply, fileReply}
 
 abbrev pub disk : Volume

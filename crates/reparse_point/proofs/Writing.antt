@@ -1,10 +1,9 @@
 -- The header and the data in the output, and the reply that they make.
 -- Assumes nothing.
-use mathlib.Core.Path.{_≡_, refl, sym, ap, ap₂, _∙_, subst}
-use mathlib.Core.Logic.{_⊎_, inl, inr}
+use mathlib.Core.Path.{_≡_, refl, sym, ap, ap₂, _∙_}
 use mathlib.Core.Bool.{Bool, true, false, not}
 use mathlib.Core.List.{List, [], _∷_, _++_, append-nil}
-use mathlib.Core.Option.{Option, none, some}
+use mathlib.Core.Option.{none}
 use Prim.Native.Nat.{ℕ, _+_, _-_, _^_, _≤_, _<_}
 use native.Mathlib.Omega.{arith}
 use lib.Dec.{leb, eqb}
@@ -15,19 +14,17 @@ use denote.Laws.{Is}
 use denote.Struct.Laws.{vals, owed}
 use Rattle.le.specs.Numbers.{le, encode}
 use Rattle.le.proofs.Tail.{lent, back, Put, put-first, put-next}
-use Rattle.status.specs.declared.Status.{Status}
 use Rattle.status.specs.declared.Status.the-variants.{Success, InvalidDeviceRequest, BufferTooSmall, FileCorruptError, NotAReparsePoint, VolumeNotUpgraded}
-use Rattle.status.specs.declared.Judged.the-variants.{Passed, Refused}
 use Rattle.status.specs.declared.Answer.{Answer}
-use Rattle.status.specs.Check.{unless, else, judged}
-use Rattle.status.specs.Reply.{refuse, give, guard, answer, Replied}
-use Rattle.status.proofs.Checking.{else-none, unless-true}
+use Rattle.status.specs.Check.{unless, else}
+use Rattle.status.specs.Reply.{give, Replied}
+use Rattle.status.proofs.Checking.{else-none, else-right, unless-true}
 use Rattle.volume.specs.declared.Volume.{Volume}
 use Rattle.volume.specs.State.{supported}
 use Rattle.file_record.specs.declared.FileRecord.{FileRecord}
 use Rattle.file_record.proofs.FileRecord.{the-row, the-type}
 use Rattle.file_record.proofs.FileRecord.Laws.{the-laws}
-use Rattle.reparse_point.specs.Reparse.{mostData, headerLength, reparseHeader, reparseCheck, reparseBytes, reparseReply}
+use Rattle.reparse_point.specs.Reparse.{mostData, headerLength, reparseHeader, reparseCheck, reparseBytes}
 
 -- ---- the header
 
@@ -79,34 +76,35 @@ module _ (tag n : ℕ) (guid o out last : List ℕ) (h : headerLength tag ≤ le
 
 -- ---- the data behind it
 
--- as much as fits: the shorter of the two
-pub taken-part : (bytes : List ℕ) (room n : ℕ) → ((length bytes < room) × (n ≡ length bytes)) ⊎ ((room ≤ length bytes) × (n ≡ room))
-    → (n ≤ room) × (n ≤ length bytes) × (take n bytes ≡ take room bytes) × (length (take room bytes) ≡ n)
-taken-part bytes room n (inl (h, e)) =
-    let a : take n bytes ≡ bytes = take-all n bytes (omega (arith, e)) in
-    let b : take room bytes ≡ bytes = take-all room bytes (omega (arith, h)) in
-    (omega (arith, h, e), omega (arith, e), a ∙ sym b, ap length b ∙ sym e)
-taken-part bytes room n (inr (h, e)) =
-    (omega (arith, e), omega (arith, h, e), ap (λ (k : ℕ). take k bytes) e, length-take-le room bytes h ∙ sym e)
+-- n bytes are as much as fits: the shorter of the two
+abbrev pub Fitting : List ℕ → ℕ → ℕ → Type 0
+Fitting bytes room n = (n ≤ room) × (n ≤ length bytes) × (take n bytes ≡ take room bytes) × (length (take room bytes) ≡ n)
+
+module _ (bytes : List ℕ) (room n : ℕ) where
+  pub fits-whole : length bytes < room → n ≡ length bytes → Fitting bytes room n
+  fits-whole h e =
+      let b : take room bytes ≡ bytes = take-all room bytes (omega (arith, h)) in
+      (omega (arith, h, e), omega (arith, e), take-all n bytes (omega (arith, e)) ∙ sym b, ap length b ∙ sym e)
+
+  pub fits-part : room ≤ length bytes → n ≡ room → Fitting bytes room n
+  fits-part h e = (omega (arith, e), omega (arith, h, e), ap (λ (k : ℕ). take k bytes) e, length-take-le room bytes h ∙ sym e)
 
 -- it fits into the rest of the output
-pub copy-fits : (bytes o out : List ℕ) (at n : ℕ) → length out ≡ length o → ((length bytes < length o - at) × (n ≡ length bytes)) ⊎ ((length o - at ≤ length bytes) × (n ≡ length o - at))
+pub copy-fits : (bytes o out : List ℕ) (at n : ℕ) → length out ≡ length o → Fitting bytes (length o - at) n
     → length (take (n - 0) bytes) ≤ length (lent at out)
-copy-fits bytes o out at n e c =
-    let k = taken-part bytes (length o - at) n c in
+copy-fits bytes o out at n e k =
     let z : n - 0 ≡ n = omega arith in
     let l : length (take (n - 0) bytes) ≡ n = ap (λ (i : ℕ). length (take i bytes)) z ∙ length-take-le n bytes (k .1) in
     let m : length (lent at out) ≡ length out - at = length-take-le (length out - at) (drop at out) (omega (arith, length-drop at out)) in
     omega (arith, l, m, e, k .0)
 
 module _ (tag : ℕ) (guid bytes o out last : List ℕ) (at n : ℕ) (g : length guid ≡ 16) (h : headerLength tag ≤ length o) (a : at ≡ headerLength tag)
-    (c : ((length bytes < length o - at) × (n ≡ length bytes)) ⊎ ((length o - at ≤ length bytes) × (n ≡ length o - at)))
+    (k : Fitting bytes (length o - at) n)
     (e : out ≡ reparseHeader tag guid (length bytes) ++ drop (headerLength tag) o)
     (q : last ≡ take (n - 0) bytes ++ drop (length (take (n - 0) bytes)) (lent at out)) where
   pub put-data : (at + n ≡ headerLength tag + length (take (length o - headerLength tag) bytes))
       × (back at out last ≡ (reparseHeader tag guid (length bytes) ++ take (length o - headerLength tag) bytes) ++ drop (at + n) o)
   put-data =
-      let k = taken-part bytes (length o - at) n c in
       let z : n - 0 ≡ n = omega arith in
       let l : length (take n bytes) ≡ n = ap length (k .2) ∙ k .3 in
       let w : last ≡ take n bytes ++ drop n (lent at out) =
@@ -136,45 +134,26 @@ most-least tag = by (eqb tag 0) (leb (2 ^ 31) tag) refl refl
     by false true d e = rw (d, e) (omega arith)
     by false false d e = rw (d, e) (omega arith)
 
-passed-none : (k : Option Status) → Passed ≡ judged k → k ≡ none
-passed-none none e = refl
-passed-none (some x) e = let z : _≡_ {A = ℕ} 0 1 = cc in absurd (omega arith)
+module _ (v : Volume) (f : FileRecord) (bytes : List ℕ) (room : ℕ) where
+  -- the checks leave room for the header, and no more data than its length can say
+  pub passed-fits : reparseCheck v f bytes room ≡ none → (headerLength (f .tag) ≤ room) × (length bytes ≤ 16376)
+  unfolding reparseCheck
+  passed-fits p =
+      let last = unless (leb (headerLength (f .tag)) room) BufferTooSmall in
+      let tag = unless (not (eqb (f .tag) 0)) NotAReparsePoint in
+      let most = unless (leb (length bytes) (mostData (f .tag))) FileCorruptError in
+      let a = else-right (unless (supported (v .reparse)) InvalidDeviceRequest) (else (unless (supported (v .points)) VolumeNotUpgraded) (else most (else tag last))) p in
+      let k = else-none most (else tag last) (else-right (unless (supported (v .points)) VolumeNotUpgraded) (else most (else tag last)) a) in
+      let d : length bytes ≤ mostData (f .tag) = leb-true _ _ (unless-true (leb (length bytes) (mostData (f .tag))) FileCorruptError (k .0)) in
+      (leb-true _ _ (unless-true (leb (headerLength (f .tag)) room) BufferTooSmall (else-right tag last (k .1))), omega (arith, d, most-least (f .tag)))
 
-refused-some : (k : Option Status) (x : Status) → Refused x ≡ judged k → k ≡ some x
-refused-some none x e = let z : _≡_ {A = ℕ} 0 1 = cc in absurd (omega arith)
-refused-some (some y) x e = let q : x ≡ y = cc in ap some (sym q)
-
-third-and-last : (a b c d e : Option Status) → else a (else b (else c (else d e))) ≡ none → (c ≡ none) × (e ≡ none)
-third-and-last a b c d e q =
-    let k = else-none c (else d e) (else-none b (else c (else d e)) (else-none a (else b (else c (else d e))) q .1) .1) in
-    (k .0, else-none d e (k .1) .1)
-
-module _ (v : Volume) (f : FileRecord) (bytes o : List ℕ) where
-  module _ (p : Passed ≡ judged (reparseCheck v f bytes (length o))) where
-    -- the checks leave room for the header, and no more data than its length can say
-    pub passed-fits : (headerLength (f .tag) ≤ length o) × (length bytes ≤ 16376)
-    unfolding reparseCheck
-    passed-fits =
-        let k =
-        third-and-last (unless (supported (v .reparse)) InvalidDeviceRequest) (unless (supported (v .points)) VolumeNotUpgraded)
-        (unless (leb (length bytes) (mostData (f .tag))) FileCorruptError) (unless (not (eqb (f .tag) 0)) NotAReparsePoint)
-        (unless (leb (headerLength (f .tag)) (length o)) BufferTooSmall) (passed-none (reparseCheck v f bytes (length o)) p) in
-        let d : length bytes ≤ mostData (f .tag) = leb-true _ _ (unless-true (leb (length bytes) (mostData (f .tag))) FileCorruptError (k .0)) in
-        (leb-true _ _ (unless-true (leb (headerLength (f .tag)) (length o)) BufferTooSmall (k .1)), omega (arith, d, most-least (f .tag)))
-
-    pub reply-given : (count : ℕ) (r : Answer) (out : List ℕ) → length (f .guid) ≡ 16 → count ≡ headerLength (f .tag) + length (take (length o - headerLength (f .tag)) bytes)
-        → out ≡ (reparseHeader (f .tag) (f .guid) (length bytes) ++ take (length o - headerLength (f .tag)) bytes) ++ drop count o → r ≡ record { status = Success; count = count }
-        → Replied (reparseReply v f bytes (length o)) r o out
-    unfolding reparseReply reparseBytes
-    reply-given count r out g n e a =
-        let head : List ℕ = reparseHeader (f .tag) (f .guid) (length bytes) in
-        let kept : List ℕ = take (length o - headerLength (f .tag)) bytes in
-        let l : count ≡ length (head ++ kept) = n ∙ sym (length-append head kept ∙ ap (λ (i : ℕ). i + length kept) (header-size (f .tag) (length bytes) (f .guid) g)) in
-        subst (λ (k : Option Status). Replied (guard k (give Success (head ++ kept))) r o out) (sym (passed-none (reparseCheck v f bytes (length o)) p))
-        (record { answered = a ∙ ap (λ (i : ℕ). record { status = Success; count = i }) l; output = e ∙ ap (λ (i : ℕ). (head ++ kept) ++ drop i o) l })
-
-  pub reply-refused : (x : Status) (r : Answer) → Refused x ≡ judged (reparseCheck v f bytes (length o)) → r ≡ answer (refuse x) → Replied (reparseReply v f bytes (length o)) r o o
-  unfolding reparseReply
-  reply-refused x r p a =
-      subst (λ (k : Option Status). Replied (guard k (give Success (reparseBytes f bytes (length o)))) r o o) (sym (refused-some (reparseCheck v f bytes (length o)) x p))
-      (record { answered = a; output = refl })
+pub reply-given : (f : FileRecord) (bytes o : List ℕ) (count : ℕ) (r : Answer) (out : List ℕ) → length (f .guid) ≡ 16
+    → count ≡ headerLength (f .tag) + length (take (length o - headerLength (f .tag)) bytes)
+    → out ≡ (reparseHeader (f .tag) (f .guid) (length bytes) ++ take (length o - headerLength (f .tag)) bytes) ++ drop count o → r ≡ record { status = Success; count = count }
+    → Replied (give Success (reparseBytes f bytes (length o))) r o out
+unfolding reparseBytes
+reply-given f bytes o count r out g n e a =
+    let head : List ℕ = reparseHeader (f .tag) (f .guid) (length bytes) in
+    let kept : List ℕ = take (length o - headerLength (f .tag)) bytes in
+    let l : count ≡ length (head ++ kept) = n ∙ sym (length-append head kept ∙ ap (λ (i : ℕ). i + length kept) (header-size (f .tag) (length bytes) (f .guid) g)) in
+    record { answered = a ∙ ap (λ (i : ℕ). record { status = Success; count = i }) l; output = e ∙ ap (λ (i : ℕ). (head ++ kept) ++ drop i o) l }

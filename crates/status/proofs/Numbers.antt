@@ -14,6 +14,7 @@ use Rattle.status.specs.declared.Judged.the-variants.{Passed, Refused}
 use Rattle.status.specs.Number.{number}
 use Rattle.status.specs.Check.{judged}
 use Rattle.status.specs.Result.{Result, refusal, judgedResult, checkResult}
+use Rattle.status.proofs.Checking.{told-refused, told-passed}
 
 -- the status with this number
 named : ℕ → Status
@@ -57,3 +58,11 @@ told-judged Passed none e = refl
 told-judged Passed (some x) e = let n : _≡_ {A = ℕ} 0 1 = ap (λ (r : Result). length (r .values)) e in absurd (omega arith)
 told-judged (Refused y) none e = let n : _≡_ {A = ℕ} 1 0 = ap (λ (r : Result). length (r .values)) e in absurd (omega arith)
 told-judged (Refused y) (some x) e = ap Refused (same-refusal y x e)
+
+-- of an answer with the result of these checks: a refusal is theirs, and where it passes none applies
+module _ (r : Judged) (k : Option Status) (q : judgedResult r ≡ checkResult k) where
+  pub told-refusal : (x : Status) → r ≡ Refused x → k ≡ some x
+  told-refusal x e = told-refused k x (sym e ∙ told-judged r k q)
+
+  pub told-pass : r ≡ Passed → k ≡ none
+  told-pass e = told-passed k (sym e ∙ told-judged r k q)

@@ -6,33 +6,27 @@ use Rattle.file_links.proofs.Choosing.{Picked, pick-short, pick-named, 
 use Rattle.file_links.proofs.choose_link.Statement.{statement}
 use Rattle.file_links.proofs.choose_link.Tie as tie
 
+abbrev start : tie.Joined1 → tie.Start
+start j = j .before .before .before .before .before .before
+
 -- where the arms meet
-picked : (c : tie.Joined1) → let s = c .before .before .before .before .before .before in let a = s .args in
-    Picked (a .places .now) (a .lengths .now) (a .shorts .now) (s .pre .0) (s .pre .1) (c .if1 .i)
-picked c =
-    let n = c .before in
+picked : (j : tie.Joined1) → let s = start j in Picked (s .args .places .now) (s .args .lengths .now) (s .args .shorts .now) (s .pre .0) (s .pre .1) (j .if1 .i)
+picked j =
+    let n = j .before in
     let f = n .before in
-    let s = f .before .before .before .before in
-    let a = s .args in
-    ⊎-elim (λ w. pick-short (a .places .now) (a .lengths .now) (a .shorts .now) (s .pre .0) (s .pre .1) (c .if1 .i) (f .first-nonzero .result) (f .first-nonzero .ensures .0) (w .0 .taken) (w .1))
-    (λ w. pick-named (a .places .now) (a .lengths .now) (a .shorts .now) (s .pre .0) (s .pre .1) (c .if1 .i) (f .first-nonzero .result) (n .first-nonzero2 .result)
-    (f .first-nonzero .ensures .0) (n .first-nonzero2 .ensures .0) (w .0 .left) (w .1))
-    (c .if1 .came)
+    ⊎-elim (λ w. pick-short _ _ _ (start j .pre .0) (start j .pre .1) (j .if1 .i) _ (f .first-nonzero .ensures .0) (w .0 .taken) (w .1))
+    (λ w. pick-named _ _ _ (start j .pre .0) (start j .pre .1) (j .if1 .i) _ _ (f .first-nonzero .ensures .0) (n .first-nonzero2 .ensures .0) (w .0 .left) (w .1))
+    (j .if1 .came)
 
 returns : tie.Need-returns
 returns c =
     let j = c .before .before in
-    let s = j .before .before .before .before .before .before in
-    let a = s .args in
-    chosen-none (a .places .now) (a .lengths .now) (a .shorts .now) (s .pre .0) (s .pre .1) (j .if1 .i) (c .no-link .result) (picked j) (c .before .if2 .taken) (c .no-link .ensures)
+    chosen-none _ _ _ (start j .pre .0) (start j .pre .1) (j .if1 .i) _ (picked j) (c .before .if2 .taken) (c .no-link .ensures)
 
 returns-2 : tie.Need-returns-2
 returns-2 c =
     let e = c .before .before .before .before in
-    let j = e .before in
-    let s = j .before .before .before .before .before .before in
-    let a = s .args in
-    chosen-at (a .places .now) (a .lengths .now) (a .shorts .now) (s .pre .0) (s .pre .1) (j .if1 .i) (picked j) (e .if2 .left)
+    chosen-at _ _ _ (start (e .before) .pre .0) (start (e .before) .pre .1) _ (picked (e .before)) (e .if2 .left)
 
 pub choose-link-spec : {M : Type 1} → statement M
 choose-link-spec =

@@ -6,16 +6,10 @@ use Rattle.file_links.proofs.has_name.Statement.{statement}
 use Rattle.file_links.proofs.has_name.Tie as tie
 
 returns : tie.Need-returns
-returns c =
-    let t = c .before in
-    let a = t .before .args in
-    has-asked (a .short) true (a .l) (t .if1 .taken)
+returns c = has-asked _ true _ (c .before .if1 .taken)
 
 returns-2 : tie.Need-returns-2
-returns-2 c =
-    let t = c .before in
-    let a = t .before .args in
-    has-asked (a .short) false (a .l) (t .if1 .left)
+returns-2 c = has-asked _ false _ (c .before .if1 .left)
 
 pub has-name-spec : {M : Type 1} → statement M
 has-name-spec = tie.close (tie.spec returns returns-2)

@@ -1,13 +1,21 @@
--- `reply_regions` meets its contract: each return by the law of the tests that led there.
+-- `reply_regions` meets its contract: each return by the tests that led there.
 -- Assumes nothing.
-use mathlib.Core.Path.{_≡_, sym, _∙_}
+use mathlib.Core.Path.{_≡_, refl, sym, _∙_}
 use mathlib.Core.Bool.{true, false}
+use mathlib.Core.List.{append-nil}
 use native.Mathlib.Omega.{arith}
-use borrow.Author.Tests.{not-true, not-false}
-use Rattle.file_regions.specs.Regions.{isOutside, secondDue}
-use Rattle.file_regions.proofs.Writing.{one-put, inside, reply-outside, reply-one, reply-overflow, reply-two}
+use lib.ListN.{length, length-append}
+use borrow.Author.Tests.{not-true, not-false, le-leb, lt-leb}
+use Rattle.file_regions.specs.Regions.{isOutside, secondDue, listBytes, answerRegions, regionsAnswer}
+use Rattle.file_regions.proofs.Writing.{length-header, length-region, one-put, inside}
 use Rattle.file_regions.proofs.reply_regions.Statement.{statement}
 use Rattle.file_regions.proofs.reply_regions.Tie as tie
+
+returns : tie.Need-returns
+unfolding regionsAnswer
+returns c =
+    let k = c .before in
+    rw (sym (k .before .is-outside .ensures) ∙ k .if1 .taken) (record { answered = c .success .ensures; output = refl })
 
 -- the offset is not outside the file
 is-inside : (k : tie.Else1) → let a = k .before .before .before .args in isOutside (a .f .eof) (a .a .offset) ≡ false
@@ -20,58 +28,44 @@ is-one k = sym (k .before .second-due .ensures) ∙ not-true _ (k .if2 .taken)
 is-two : (k : tie.Else2) → let a = k .before .before .before .before .before .before .args in secondDue (a .f .eof) (a .f .valid) (a .a) ≡ true
 is-two k = sym (k .before .second-due .ensures) ∙ not-false _ (k .if2 .left)
 
-returns : tie.Need-returns
-returns c =
-    let k = c .before in
-    let a = k .before .before .before .args in
-    reply-outside (a .f) (a .a) (a .output .now) (c .success .result) (sym (k .before .is-outside .ensures) ∙ k .if1 .taken) (c .success .ensures)
-
-first-region-requires : tie.Need-first-region-requires
-first-region-requires c κs = inside _ _ (is-inside c)
-
-second-due-requires : tie.Need-second-due-requires
-second-due-requires c κs = c .first-region .ensures
-
 returns-2 : tie.Need-returns-2
+unfolding regionsAnswer answerRegions listBytes
 returns-2 c =
     let y = c .before .before .before in
     let x = y .before .before .before .before in
     let k = x .before .before in
     let d = k .before .before in
-    let i = d .before in
-    let s = i .before .before .before in
-    let a = s .args in
-    reply-one (a .f) (a .a) (a .output .now) (c .success2 .result) (is-inside i) (d .first-region .result) (d .first-region .ensures) _ (is-one k) (s .pre .2)
-    (one-put 1 (d .first-region .result) (a .output .now) (x .put-header .last .0) (y .put-region .last .0) (s .pre .2) (x .put-header .ensures) (y .put-region .ensures))
-    (c .success2 .ensures)
+    let s = d .before .before .before .before in
+    let p = one-put 1 (d .first-region .result) (s .args .output .now) (x .put-header .last .0) (y .put-region .last .0) (s .pre .2) (x .put-header .ensures) (y .put-region .ensures) in
+    rw (is-inside (d .before), is-one k, ← (d .first-region .ensures), le-leb _ _ (s .pre .2), append-nil)
+    (record { answered = c .success2 .ensures ∙ simp (length-append, length-header, length-region); output = p ∙ simp (length-append, length-header, length-region) })
 
 returns-3 : tie.Need-returns-3
+unfolding regionsAnswer answerRegions
 returns-3 c =
-    let l = c .before in
-    let k = l .before in
-    let d = k .before .before in
-    let i = d .before in
-    let a = i .before .before .before .args in
-    reply-overflow (a .f) (a .a) (a .output .now) (c .refused .result) (is-inside i) (d .first-region .result) (d .first-region .ensures) (is-two k) (omega (arith, l .if3 .taken)) (c .refused .ensures)
-
-second-region-requires : tie.Need-second-region-requires
-second-region-requires c κs = let k = c .before .before in (k .before .before .first-region .ensures, is-two k)
+    let k = c .before .before in
+    let i = k .before .before .before in
+    let o = i .before .before .before .args .output .now in
+    rw (is-inside i, is-two k, lt-leb 64 (length o) (omega (arith, c .before .if3 .taken))) (record { answered = c .refused .ensures; output = refl })
 
 returns-4 : tie.Need-returns-4
+unfolding regionsAnswer answerRegions listBytes
 returns-4 c =
     let y = c .before .before .before in
     let x = y .before in
     let l = x .before .before in
     let k = l .before in
     let d = k .before .before in
-    let i = d .before in
-    let a = i .before .before .before .args in
-    reply-two (a .f) (a .a) (a .output .now) (c .success3 .result) (is-inside i) (d .first-region .result) (d .first-region .ensures) (x .second-region .result) _ (is-two k)
-    (x .second-region .ensures) (l .if3 .left) (y .put-two-regions .ensures) (c .success3 .ensures)
+    rw (is-inside (d .before), is-two k, ← (d .first-region .ensures), ← (x .second-region .ensures), le-leb 64 _ (l .if3 .left), append-nil)
+    (record {
+      answered = c .success3 .ensures ∙ simp (length-append, length-header, length-region);
+      output = y .put-two-regions .ensures ∙ simp (length-append, length-header, length-region);
+    })
 
 pub reply-regions-spec : {M : Type 1} → statement M
 reply-regions-spec =
     tie.close
-    (tie.spec (λ c κs. omega arith) (λ c κs. omega arith) returns first-region-requires second-due-requires (λ c κs. omega arith) (λ c. omega arith)
-    (λ c. omega arith) (λ c. omega arith) (λ c κs. omega arith) (λ c κs. omega arith) (λ c. omega arith) returns-2 (λ c κs. omega arith) returns-3
-    second-region-requires (λ c κs. omega arith) (λ c κs. omega arith) (λ c. omega arith) returns-4)
+    (tie.spec (λ c κs. omega arith) (λ c κs. omega arith) returns (λ c κs. inside _ _ (is-inside c)) (λ c κs. c .first-region .ensures)
+    (λ c κs. omega arith) (λ c. omega arith) (λ c. omega arith) (λ c. omega arith) (λ c κs. omega arith) (λ c κs. omega arith) (λ c. omega arith)
+    returns-2 (λ c κs. omega arith) returns-3 (λ c κs. let k = c .before .before in (k .before .before .first-region .ensures, is-two k))
+    (λ c κs. omega arith) (λ c κs. omega arith) (λ c. omega arith) returns-4)

@@ -1,27 +1,27 @@
 -- `second_region` meets its contract: where a second region is due, both subtractions have room.
 -- Assumes nothing.
+use Prim.Native.Nat.{_<_}
 use native.Mathlib.Omega.{arith}
-use Rattle.file_regions.proofs.Dividing.{due-facts, due-less, second-rest}
+use lib.Dec.{ltb}
+use borrow.Author.Tests.{ltb-true}
+use Rattle.le.proofs.Runs.{and-left, and-right}
+use Rattle.file_regions.specs.Regions.{secondDue, secondRegion}
 use Rattle.file_regions.proofs.second_region.Statement.{statement}
 use Rattle.file_regions.proofs.second_region.Tie as tie
 
-sub-smaller : tie.Need-sub-smaller
-sub-smaller c =
-    let s = c .before .before in
+-- the valid data ends ahead of the file, and the first region is shorter than what is asked for
+due : (s : tie.Start) → let a = s .args in (a .vdl < a .eof) × (a .first .length < a .a .length)
+unfolding secondDue
+due s =
     let a = s .args in
-    omega (arith, due-less (a .eof) (a .vdl) (a .a) (a .first) (s .pre .0) (s .pre .1))
-
-sub-smaller-2 : tie.Need-sub-smaller-2
-sub-smaller-2 c =
-    let s = c .before .before in
-    let a = s .args in
-    omega (arith, due-facts (a .eof) (a .vdl) (a .a) (s .pre .1) .0)
+    let l = and-right (ltb (a .a .offset) (a .vdl)) _ (s .pre .1) in
+    rw (s .pre .0) (ltb-true _ _ (and-left (ltb (a .vdl) (a .eof)) _ l), ltb-true _ _ (and-right (ltb (a .vdl) (a .eof)) _ l))
 
 returns : tie.Need-returns
-returns c =
-    let s = c .before .before .before in
-    let a = s .args in
-    second-rest (a .eof) (a .vdl) (a .a) (a .first) (s .pre .0) _ (c .smaller .ensures)
+unfolding secondRegion
+returns c = rw (← (c .before .before .before .pre .0), c .smaller .ensures)
 
 pub second-region-spec : {M : Type 1} → statement M
-second-region-spec = tie.close (tie.spec sub-smaller sub-smaller-2 (λ c κs. omega arith) returns)
+second-region-spec =
+    tie.close
+    (tie.spec (λ c. omega (arith, due (c .before .before) .1)) (λ c. omega (arith, due (c .before .before) .0)) (λ c κs. omega arith) returns)

@@ -1,61 +1,83 @@
--- `judge_file` meets its contract: each return by the law of the test that led there.
+-- `judge_file` meets its contract: each return by what the tests before it have left of the checks.
 -- Assumes nothing.
+use mathlib.Core.Path.{_≡_, sym, ap, _∙_}
+use mathlib.Core.Bool.{true, _&&_}
+use mathlib.Core.List.{List}
+use mathlib.Core.Option.{none}
+use Prim.Native.Nat.{ℕ, _+_, _^_}
 use native.Mathlib.Omega.{arith}
-use Rattle.file_usn.proofs.Judging.{judge-support, judge-usn, judge-table, judge-versions, judge-room, judge-passed}
+use lib.Dec.{leb, ltb}
+use borrow.Author.Tests.{eq-eqb, ne-eqb, le-leb, lt-leb, lt-ltb, le-ltb, not-true, not-false}
+use Rattle.status.specs.declared.Status.the-variants.{BufferTooSmall}
+use Rattle.status.specs.Check.{unless, else}
+use Rattle.usn_record.specs.declared.Choice.the-variants.{Use}
+use Rattle.usn_record.specs.Version.{chosen}
+use Rattle.usn_record.specs.Layout.{nameOffset}
+use Rattle.usn_record.proofs.Versions.{told-choice, told-refuse, told-use}
+use Rattle.file_usn.specs.FileUsn.{fileVersions, fileVersion, fileCheck}
 use Rattle.file_usn.proofs.judge_file.Statement.{statement}
 use Rattle.file_usn.proofs.judge_file.Tie as tie
 
 returns : tie.Need-returns
-returns c =
-    let g = c .before .before .before .args in
-    judge-support (g .v) (g .f) (g .table) (g .input .now) (g .room) (c .if1 .taken)
+unfolding fileCheck
+returns c = rw (eq-eqb _ _ (c .if1 .taken))
 
 returns-2 : tie.Need-returns-2
+unfolding fileCheck
 returns-2 c =
     let s = c .before .before in
-    let g = s .before .before .before .args in
-    judge-usn (g .v) (g .f) (g .table) (g .input .now) (g .room) (s .if1 .left) (omega arith)
+    rw (ne-eqb _ _ (s .if1 .left), le-ltb (s .before .before .before .args .f .usn) (2 ^ 63) (omega (arith, c .if2 .taken)))
 
 returns-3 : tie.Need-returns-3
+unfolding fileCheck
 returns-3 c =
     let s = c .before .before .before in
-    let g = s .before .before .before .args in
-    judge-table (g .v) (g .f) (g .table) (g .input .now) (g .room) (s .if1 .left) (c .if3 .taken)
+    let a = s .before .before .before .args in
+    rw (ne-eqb _ _ (s .if1 .left), lt-ltb (a .f .usn) (2 ^ 63) (omega (arith, c .before .if2 .left)), not-true (a .table) (c .if3 .taken))
+
+abbrev start : tie.Else3 → tie.Start
+start t = t .before .before .before .before .before .before
+
+-- behind the file: the versions, then the room
+sound : (t : tie.Else3) → let a = start t .args in let input = a .input .now in
+    fileCheck (a .v) (a .f) (a .table) input (a .room) ≡ else (fileVersions input) (unless (leb (nameOffset (fileVersion input) + 4) (a .room)) BufferTooSmall)
+unfolding fileCheck
+sound t =
+    let u = t .before in
+    let k : ltb (start t .args .f .usn) (2 ^ 63) && start t .args .table ≡ true = rw (lt-ltb (start t .args .f .usn) (2 ^ 63) (omega (arith, u .if2 .left))) (not-false _ (t .if3 .left)) in
+    rw (ne-eqb _ _ (u .before .before .if1 .left), k)
+
+-- the choice is that of the versions
+abbrev read : tie.After-input-version → List ℕ
+read r = start (r .before) .args .input .now
+
+choice : (r : tie.After-input-version) → r .input-version .result ≡ chosen (fileVersions (read r)) (fileVersion (read r))
+choice r = told-choice _ (fileVersions (read r)) (fileVersion (read r)) (r .input-version .ensures)
+
+used : (m : tie.After-choice2) → let input = read (m .before .before) in (fileVersions input ≡ none) × (m .choice2 .given .0 .0 ≡ fileVersion input)
+used m =
+    let input = read (m .before .before) in
+    told-use (fileVersions input) (fileVersion input) _ (sym (m .choice2 .given .1) ∙ choice (m .before .before))
+
+-- behind the versions
+left : (o : tie.After-name-offset) → let a = start (o .before .before .before .before .before) .args in
+    fileCheck (a .v) (a .f) (a .table) (a .input .now) (a .room) ≡ unless (leb (o .name-offset .result + 4) (a .room)) BufferTooSmall
+left o =
+    let m = o .before .before in
+    rw (sound (m .before .before .before), used m .0, ← (used m .1), ← (o .name-offset .ensures .0))
 
 returns-4 : tie.Need-returns-4
 returns-4 c =
     let o = c .before in
-    let m = o .before .before in
-    let r = m .before .before in
-    let t = r .before in
-    let u = t .before in
-    let s = u .before .before in
-    let g = s .before .before .before .args in
-    judge-room (g .v) (g .f) (g .table) (g .input .now) (g .room) (s .if1 .left) (u .if2 .left) (t .if3 .left) (r .input-version .result) (r .input-version .ensures)
-    (m .choice2 .given .0 .0) (o .name-offset .result) (m .choice2 .given .1) (o .name-offset .ensures .0) (omega arith)
+    rw (left o, lt-leb (o .name-offset .result + 4) (start (o .before .before .before .before .before) .args .room) (omega (arith, c .if4 .taken)))
 
 returns-5 : tie.Need-returns-5
 returns-5 c =
-    let m = c .before in
-    let r = m .before .before in
-    let t = r .before in
-    let u = t .before in
-    let s = u .before .before in
-    let g = s .before .before .before .args in
-    judge-versions (g .v) (g .f) (g .table) (g .input .now) (g .room) (s .if1 .left) (u .if2 .left) (t .if3 .left) (r .input-version .result) (r .input-version .ensures)
-    (m .choice .given .0 .0) (m .choice .given .1)
+    let r = c .before .before .before in
+    rw (sound (r .before), told-refuse (fileVersions (read r)) (fileVersion (read r)) _ (sym (c .before .choice .given .1) ∙ choice r))
 
 returns-6 : tie.Need-returns-6
-returns-6 c =
-    let o = c .before in
-    let m = o .before .before in
-    let r = m .before .before in
-    let t = r .before in
-    let u = t .before in
-    let s = u .before .before in
-    let g = s .before .before .before .args in
-    judge-passed (g .v) (g .f) (g .table) (g .input .now) (g .room) (s .if1 .left) (u .if2 .left) (t .if3 .left) (r .input-version .result) (r .input-version .ensures)
-    (m .choice2 .given .0 .0) (o .name-offset .result) (m .choice2 .given .1) (o .name-offset .ensures .0) (omega arith)
+returns-6 c = rw (left (c .before), le-leb _ _ (c .if4 .left)) (ap Use (used (c .before .before .before) .1))
 
 pub judge-file-spec : {M : Type 1} → statement M
 judge-file-spec =

@@ -1,44 +1,66 @@
 -- `read_chosen` meets its contract: the refusal of the checks, or the record behind them.
 -- Assumes nothing.
-use mathlib.Core.Path.{sym, subst, _∙_}
-use Prim.Native.Nat.{_^_, _<_}
+use mathlib.Core.Path.{_≡_, refl, sym, _∙_}
+use mathlib.Core.Bool.{true, _&&_}
+use mathlib.Core.Option.{Option, none}
+use Prim.Native.Nat.{_+_, _^_}
 use native.Mathlib.Omega.{arith}
+use lib.Dec.{leb, ltb}
 use lib.ListN.{length}
-use Rattle.usn_record.specs.declared.Fields.{Fields}
-use Rattle.file_links.specs.Links.{nameAt}
-use Rattle.file_usn.proofs.Judging.{file-passed}
-use Rattle.file_usn.proofs.Writing.{file-refused, file-written}
+use borrow.Author.Tests.{ltb-true}
+use Rattle.le.proofs.Runs.{and-left, and-right}
+use Rattle.status.specs.declared.Status.{Status}
+use Rattle.status.specs.declared.Status.the-variants.{InvalidDeviceRequest, BufferTooSmall, FileCorruptError}
+use Rattle.status.specs.Check.{unless, else}
+use Rattle.status.proofs.Checking.{else-left, else-right, unless-true}
+use Rattle.volume.specs.State.{supported}
+use Rattle.usn_record.specs.Layout.{nameOffset}
+use Rattle.usn_record.proofs.Versions.{told-refuse, told-use}
+use Rattle.file_usn.specs.FileUsn.{fileVersions, fileVersion, fileCheck, namedReply}
 use Rattle.file_usn.proofs.read_chosen.Statement.{statement}
 use Rattle.file_usn.proofs.read_chosen.Tie as tie
 
+abbrev start : tie.After-judge-file → tie.Start
+start j = j .before .before .before .before
+
+abbrev check : tie.After-judge-file → Option Status
+check j = let a = start j .args in fileCheck (a .v) (a .f) (a .table) (a .input .now) (length (a .output .now))
+
+passes : (m : tie.After-choice2) → let j = m .before .before in (check j ≡ none) × (m .choice2 .given .0 .0 ≡ fileVersion (start j .args .input .now))
+passes m = let j = m .before .before in told-use (check j) (fileVersion (start j .args .input .now)) _ (sym (m .choice2 .given .1) ∙ j .judge-file .ensures)
+
+-- the Usn and the table have passed
+sound : (m : tie.After-choice2) → let a = start (m .before .before) .args in ltb (a .f .usn) (2 ^ 63) && a .table ≡ true
+unfolding fileCheck
+sound m =
+    let a = start (m .before .before) .args in
+    let last = else (fileVersions (a .input .now)) (unless (leb (nameOffset (fileVersion (a .input .now)) + 4) (length (a .output .now))) BufferTooSmall) in
+    let corrupt = unless (ltb (a .f .usn) (2 ^ 63) && a .table) FileCorruptError in
+    let k = else-right (unless (supported (a .v .usn)) InvalidDeviceRequest) (else corrupt last) (passes m .0) in
+    unless-true (ltb (a .f .usn) (2 ^ 63) && a .table) FileCorruptError (else-left corrupt last k)
+
 write-file-requires : tie.Need-write-file-requires
 write-file-requires c κs =
-    let q = c .before in
-    let m = q .before .before in
-    let j = m .before .before in
-    let s = j .before .before .before .before in
-    let a = s .args in
-    let k = file-passed (a .v) (a .f) (a .table) (a .input .now) (length (a .output .now)) (m .choice2 .given .0 .0) (sym (m .choice2 .given .1) ∙ j .judge-file .ensures) in
-    (s .pre (k .0), subst (λ (x : Fields). x .usn < 2 ^ 63) (sym (q .fields-of .ensures)) (k .1))
+    let m = c .before .before .before in
+    let s = start (m .before .before) in
+    let usn = ltb (s .args .f .usn) (2 ^ 63) in
+    (s .pre (and-right usn (s .args .table) (sound m)), rw (c .before .fields-of .ensures) (ltb-true _ _ (and-left usn (s .args .table) (sound m))))
 
 returns : tie.Need-returns
+unfolding namedReply
 returns c =
     let m = c .before .before in
     let j = m .before .before in
-    let a = j .before .before .before .before .args in
-    file-refused (a .v) (a .f) (a .parent) (a .input .now) (a .output .now) (c .refused .result) (a .table) (nameAt (a .pool .now) (a .link))
-    (m .choice .given .0 .0) (sym (m .choice .given .1) ∙ j .judge-file .ensures) (c .refused .ensures)
+    rw (told-refuse (check j) (fileVersion (start j .args .input .now)) _ (sym (m .choice .given .1) ∙ j .judge-file .ensures))
+    (record { answered = c .refused .ensures; output = refl })
 
 returns-2 : tie.Need-returns-2
+unfolding namedReply
 returns-2 c =
     let r = c .before .before in
     let q = r .before .before in
     let m = q .before .before in
-    let j = m .before .before in
-    let a = j .before .before .before .before .args in
-    file-written (a .v) (a .f) (a .parent) (a .input .now) (a .output .now) (r .write-file .result) (a .table) (nameAt (a .pool .now) (a .link))
-    (m .choice2 .given .0 .0) (r .write-file .last .1 .1 .1 .1 .0) (sym (m .choice2 .given .1) ∙ j .judge-file .ensures)
-    (r .write-file .ensures (a .f) (a .parent) (q .fields-of .ensures))
+    rw (passes m .0, ← (passes m .1)) (r .write-file .ensures _ _ (q .fields-of .ensures))
 
 pub read-chosen-spec : {M : Type 1} → statement M
 read-chosen-spec =

@@ -1,49 +1,48 @@
 -- `get_reparse_point` meets its contract: the refusal of the checks, or the header with the data behind it.
 -- Assumes nothing.
-use mathlib.Core.Path.{refl, sym, _∙_}
+use mathlib.Core.Path.{_≡_, refl, sym, _∙_}
+use mathlib.Core.Option.{none}
 use native.Mathlib.Omega.{arith}
+use lib.ListN.{length}
 use borrow.Author.Needs.{needs}
-use Rattle.reparse_point.proofs.Writing.{guid-size, passed-fits, reply-given, reply-refused}
+use Rattle.status.proofs.Checking.{told-refused, told-passed}
+use Rattle.reparse_point.specs.Reparse.{reparseCheck, reparseReply}
+use Rattle.reparse_point.proofs.Writing.{guid-size, passed-fits, reply-given}
 use Rattle.reparse_point.proofs.get_reparse_point.Statement.{statement}
 use Rattle.reparse_point.proofs.get_reparse_point.Tie as tie
 
-judge-reparse-requires : tie.Need-judge-reparse-requires
-judge-reparse-requires c κs = tt
+abbrev start : tie.After-judge-reparse → tie.Start
+start j = j .before .before .before
 
-refused-requires : tie.Need-refused-requires
-refused-requires c κs = tt
+passes : (m : tie.After-enum-told) → let a = start (m .before .before) .args in reparseCheck (a .v) (a .f) (a .bytes .now) (length (a .output .now)) ≡ none
+passes m = told-passed _ (sym (m .enum-told .given .1) ∙ m .before .before .judge-reparse .ensures _ refl)
 
 put-reparse-requires : tie.Need-put-reparse-requires
 put-reparse-requires c κs =
     let m = c .before .before .before in
-    let j = m .before .before in
-    let s = j .before .before .before in
-    let a = s .args in
-    let k = passed-fits (a .v) (a .f) (a .bytes .now) (a .output .now) (sym (m .enum-told .given .1) ∙ j .judge-reparse .ensures (a .f) refl) in
-    (k .0, guid-size (a .f) (s .good .1 .0), k .1)
-
-success-requires : tie.Need-success-requires
-success-requires c κs = tt
+    let s = start (m .before .before) in
+    let k = passed-fits _ (s .args .f) _ _ (passes m) in
+    (k .0, guid-size (s .args .f) (s .good .1 .0), k .1)
 
 returns : tie.Need-returns
+unfolding reparseReply
 returns c =
     let m = c .before .before in
     let j = m .before .before in
-    let a = j .before .before .before .args in
-    reply-refused (a .v) (a .f) (a .bytes .now) (a .output .now) (m .call .given .0 .0) (c .refused .result) (sym (m .call .given .1) ∙ j .judge-reparse .ensures (a .f) refl) (c .refused .ensures)
+    let a = start j .args in
+    rw (told-refused (reparseCheck (a .v) (a .f) (a .bytes .now) (length (a .output .now))) _ (sym (m .call .given .1) ∙ j .judge-reparse .ensures (a .f) refl))
+    (record { answered = c .refused .ensures; output = refl })
 
 returns-2 : tie.Need-returns-2
+unfolding reparseReply
 returns-2 c =
     let y = c .before .before .before in
     let m = y .before .before .before .before in
-    let j = m .before .before in
-    let s = j .before .before .before in
-    let a = s .args in
-    reply-given (a .v) (a .f) (a .bytes .now) (a .output .now) (sym (m .enum-told .given .1) ∙ j .judge-reparse .ensures (a .f) refl) (y .put-reparse .result) (c .success .result) (y .put-reparse .last .0)
-    (guid-size (a .f) (s .good .1 .0)) (y .put-reparse .ensures .0) (y .put-reparse .ensures .1) (c .success .ensures)
+    let s = start (m .before .before) in
+    rw (passes m) (reply-given _ _ _ _ _ _ (guid-size (s .args .f) (s .good .1 .0)) (y .put-reparse .ensures .0) (y .put-reparse .ensures .1) (c .success .ensures))
 
 pub get-reparse-point-spec : {M : Type 1} → statement M
 get-reparse-point-spec =
     tie.close
-    (tie.spec judge-reparse-requires (λ c. omega arith) refused-requires (λ c. omega arith) (λ c. search needs) put-reparse-requires success-requires
-    returns (λ c. omega arith) returns-2)
+    (tie.spec (λ c κs. tt) (λ c. omega arith) (λ c κs. tt) (λ c. omega arith) (λ c. search needs) put-reparse-requires (λ c κs. tt) returns
+    (λ c. omega arith) returns-2)
