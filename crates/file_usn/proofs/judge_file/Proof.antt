@@ -20,7 +20,7 @@ use Rattle.file_usn.proofs.judge_file.Tie as tie
 
 returns : tie.Need-returns
 unfolding fileCheck
-returns c = rw (eq-eqb _ _ (c .if1 .taken))
+returns c = rw (eq-eqb (c .before .before .before .args .v .usn) 0 (omega (arith, c .if1 .taken)))
 
 returns-2 : tie.Need-returns-2
 unfolding fileCheck
