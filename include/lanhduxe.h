@@ -7,7 +7,8 @@
  *
  * Memory. Every buffer is lent for the time of one call, as a pointer and a length; with a length of 0 the pointer may be NULL. The
  * pointers `volume` and `usn` must not be NULL. What a call may write (a post's ring, an output, *volume, *usn) must not overlap
- * anything else that is lent to it, and nobody else may use it meanwhile. A struct that is passed by value is only read.
+ * anything else that is lent to it, and nobody else may use it meanwhile; nor may anyone change what the call reads. A struct that is
+ * passed by value is only read.
  *
  * Answers. A status other than USN_SUCCESS is a refusal: it reports 0 bytes and has changed no buffer and no record. With
  * USN_SUCCESS the output holds `count` bytes of reply, and its bytes behind them are as they were. Each call gives the first status
@@ -59,7 +60,7 @@ extern "C" {
 
 /* ---- States of a journal ---- */
 
-#define USN_STATE_IDLE     0u /* any other number is idle too */
+#define USN_STATE_IDLE     0u /* and so is any number but the next two */
 #define USN_STATE_ACTIVE   1u
 #define USN_STATE_DELETING 2u
 
@@ -68,7 +69,7 @@ extern "C" {
 #define USN_NAME_MAX       510u                         /* bytes of a name */
 #define USN_CAPACITY_MIN   1024u                        /* bytes of a ring, always a multiple of 8 */
 #define USN_CAPACITY_MAX   65536u
-#define USN_READ_ROOM      600u                         /* an output of so many bytes always brings a reader on */
+#define USN_READ_ROOM      600u                         /* a read with so many bytes of output has room for any record */
 #define USN_POSITION_LIMIT UINT64_C(0x8000000000000000) /* 2^63, the first number that is no position and no Usn */
 #define USN_LIST_MAX       65536u                       /* bytes of a reply that usn_list_reply lists */
 
@@ -83,8 +84,8 @@ typedef struct usn_volume {
     uint32_t journal;  /* usn_post and usn_read_journal */
     uint32_t state;    /* one of USN_STATE_ */
     uint64_t id;       /* the journal's id, or the last one used */
-    uint64_t first;    /* the position of the oldest kept record, a multiple of 8 */
-    uint64_t last;     /* the position behind the newest record, LastUsn, a multiple of 8 */
+    uint64_t first;    /* where the oldest kept record begins, a multiple of 8 */
+    uint64_t last;     /* where the newest record ends, LastUsn, a multiple of 8 */
     uint64_t capacity; /* the ring's length */
 } usn_volume;
 
@@ -261,7 +262,7 @@ usn_answer usn_read_file(usn_volume volume, usn_file file, uint64_t parent, cons
 /*
  * Gives the file's regions (FSCTL_QUERY_FILE_REGIONS): that of valid data, and the rest of the file.
  * Input: FileOffset i64 and Length i64, both signed, DesiredUsage u32, 4 bytes that are ignored; or nothing, for the whole file and
- * usage 1.
+ * usage 1. A FileOffset past the end of the file, or at the end of one that is not empty, gives USN_SUCCESS with 0 bytes.
  * INVALID_DEVICE_REQUEST without support; FILE_CORRUPT_ERROR for a wrong eof or valid; BUFFER_TOO_SMALL for 1 to 23 bytes of input;
  * INVALID_PARAMETER for a Length that is not above 0, a negative FileOffset, an end past 2^63 - 1, or a usage without flag 1;
  * BUFFER_TOO_SMALL below 40 bytes of output; BUFFER_OVERFLOW where a second region is due and the output is below 64.
@@ -271,8 +272,8 @@ usn_answer usn_query_file_regions(usn_volume volume, usn_file file, const uint8_
 
 /*
  * Gives the file's reparse tag, the GUID if the tag is not Microsoft's, and as much of the data as fits (FSCTL_GET_REPARSE_POINT).
- * INVALID_DEVICE_REQUEST without support; VOLUME_NOT_UPGRADED without reparse points; FILE_CORRUPT_ERROR for data that is too long
- * (16,376 bytes, 16,360 with a GUID) or has no tag; NOT_A_REPARSE_POINT for tag 0; BUFFER_TOO_SMALL below 8 bytes of output (24
+ * INVALID_DEVICE_REQUEST without support; VOLUME_NOT_UPGRADED without reparse points; FILE_CORRUPT_ERROR for data above 16,376
+ * bytes (16,360 with a GUID) or without a tag; NOT_A_REPARSE_POINT for tag 0; BUFFER_TOO_SMALL below 8 bytes of output (24
  * with a GUID).
  */
 usn_answer usn_get_reparse_point(usn_volume volume, usn_file file, const uint8_t *data, size_t data_size,

@@ -2,7 +2,7 @@
 -- Assumes nothing.
 use mathlib.Core.Path.{_≡_, refl}
 use mathlib.Core.List.{List, [], _∷_, _++_, map}
-use Prim.Native.Nat.{ℕ, _-_, _^_}
+use Prim.Native.Nat.{ℕ}
 use lib.ListN.{replicate}
 use Rattle.le.specs.Numbers.{le, unle, numberAt, encode}
 use Rattle.status.specs.declared.Status.the-variants.{Success, BufferOverflow, InvalidParameter}
@@ -19,13 +19,24 @@ volume = record { usn = 0; regions = 1; reparse = 0; points = 0; journal = 0; st
 abbrev pub file : ℕ → ℕ → FileRecord
 file eof vdl = record { id = 0; attributes = 0; usn = 0; eof = eof; valid = vdl; tag = 0; guid = replicate 16 0 }
 
+-- a number below 256 as the bytes of 4 and of 8, written out
+abbrev pub four : ℕ → List ℕ
+four n = n ∷ 0 ∷ 0 ∷ 0 ∷ []
+
+abbrev pub eight : ℕ → List ℕ
+eight n = n ∷ 0 ∷ 0 ∷ 0 ∷ 0 ∷ 0 ∷ 0 ∷ 0 ∷ []
+
+-- 2^63-1
+abbrev pub most : List ℕ
+most = 0xFF ∷ 0xFF ∷ 0xFF ∷ 0xFF ∷ 0xFF ∷ 0xFF ∷ 0xFF ∷ 0x7F ∷ []
+
 -- FileOffset, Length, DesiredUsage and Reserved; a region of the reply has the same numbers
 abbrev pub asks : ℕ → ℕ → ℕ → List ℕ
-asks offset length usage = le 8 offset ++ (le 8 length ++ (le 4 usage ++ le 4 0))
+asks offset length usage = eight offset ++ (eight length ++ (four usage ++ four 0))
 
 -- Flags, both counts and Reserved
 abbrev pub counts : ℕ → List ℕ
-counts n = le 4 0 ++ (le 4 n ++ (le 4 n ++ le 4 0))
+counts n = four 0 ++ (four n ++ (four n ++ four 0))
 
 -- Eof, Vdl, the input, the room, the reply, and how many bytes it counts
 pub record Example : Type 0 where
@@ -47,7 +58,7 @@ examples =
     ∷ row 100 60 (asks 50 10 3) 64 (give Success (counts 1 ++ asks 50 10 3)) 40
     ∷ row 100 60 (asks 100 1 1) 64 (give Success []) 0
     ∷ row 0 0 [] 40 (give Success (counts 1 ++ asks 0 0 0)) 40
-    ∷ row 100 60 (asks 1 (2 ^ 63 - 1) 1) 64 (refuse InvalidParameter) 0
+    ∷ row 100 60 (eight 1 ++ (most ++ (four 1 ++ four 0))) 64 (refuse InvalidParameter) 0
     ∷ []
 
 abbrev replyTo : Example → Reply

@@ -9,7 +9,7 @@ ghost use Rattle.list_input.specs.Input.{Within, ReadInto};
 use libc::STDOUT_FILENO;
 use status::Answer;
 
-// What reading an input to its end found: how many bytes there were, or that a read failed.
+// What reading an input found: how many bytes came, at most the buffer's length, or that a read failed.
 pub enum Input {
     Bytes(usize),
     Failed,

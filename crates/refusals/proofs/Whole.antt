@@ -37,7 +37,7 @@ use Rattle.file_regions.specs.declared.Region.{Region}
 use Rattle.file_regions.specs.Regions.{askedOf, regionsCheck, regionsOf, isOutside, regionsHeader, listBytes, answerRegions, regionsAnswer, regionsReply}
 use Rattle.reparse_point.specs.Reparse.{reparseCheck, reparseBytes, reparseReply}
 use Rattle.history.specs.Calls.{Posting, Journal, Call, create, post, read, delete, finish, statusOf, next}
-use Rattle.refusals.specs.Refusal.{isRefusal, Control, readJournal, readFile, readFileTable, queryRegions, getReparsePoint, listRecords, writeRecord, replyOf, usnAfter, Refusals}
+use Rattle.refusals.specs.Refusal.{isRefusal, Control, readJournal, readFile, readFileTable, queryRegions, getReparsePoint, listRecords, writeRecord, copyRecord, replyOf, usnAfter, Refusals}
 
 refutes : {A : Type 0} (b : Bool) → b ≡ false → b ≡ true → A
 refutes b e h = let z : _≡_ {A = Bool} false true = sym e ∙ h in let n : _≡_ {A = ℕ} 0 1 = cc in absurd (omega arith)
@@ -110,6 +110,7 @@ plain-control (queryRegions v f input) room =
 plain-control (getReparsePoint v f bytes) room = plain-guard (reparseCheck v f bytes room) (give Success (reparseBytes f bytes room)) refl
 plain-control (listRecords s) room = plain-guard (unless (leb (64 + 2 * length s) room) BufferTooSmall) (give Success (listing s)) refl
 plain-control (writeRecord v f name) room = plain-guard (writeCheck v f name room) (give Success (layout v f name)) refl
+plain-control (copyRecord bytes) room = plain-guard (unless (leb (length bytes) room) BufferTooSmall) (give Success bytes) refl
 
 -- ---- calls
 
