@@ -20,7 +20,7 @@ use Rattle.kept_writer.specs.Kept.{fits}
 use Rattle.journal_page.specs.Page.{Page, pageStep, pageOf, empty}
 use Rattle.history.specs.Reading.{Alike}
 use Rattle.history.specs.Demand.{keep, filter, between, above}
-use Rattle.history.proofs.Links.{Chain, chain-le, link-rises, link-short}
+use Rattle.journal_post.proofs.Links.{Chain, chain-le, link-rises, link-short}
 use Rattle.history.proofs.Effects.{clash, and-true}
 
 -- ---- filters

@@ -16,8 +16,8 @@ use Rattle.status.specs.Check.{unless, else}
 use Rattle.volume.specs.declared.Volume.{Volume}
 use Rattle.volume.specs.State.{supported, isActive, isDeleting, goodCapacity, goodPosition}
 use Rattle.volume.specs.Calls.{performed, inState, atPositions, createCheck, created, deleteOutcome, finishCheck}
-use Rattle.journal_post.specs.Post.{postOutcome, postRing}
-use Rattle.history.specs.Calls.{Posting, Call, create, post, read, delete, finish, Journal, Called, called, Effect, opens, posts, closes, nothing, effect}
+use Rattle.journal_post.specs.Posts.{Journal, Posting, afterPost, afterPosts}
+use Rattle.history.specs.Calls.{Call, create, post, read, delete, finish, Called, called, Effect, opens, posts, closes, nothing, effect}
 
 pub clash : {A : Type 0} → _≡_ {A = ℕ} 0 1 → A
 clash z = absurd (omega arith)
@@ -37,13 +37,6 @@ with v ring = record { volume = v; ring = ring }
 -- the journal just created at position p
 abbrev pub emptied : Journal → ℕ → ℕ → Journal
 emptied j p id = with (created (atPositions (j .volume) p p) id) (j .ring)
-
-abbrev pub afterPost : Journal → Posting → Journal
-afterPost j p = with (postOutcome (j .volume) (j .ring) (p .change) (p .name) .volume) (postRing (j .volume) (j .ring) (p .change) (p .name))
-
-abbrev pub afterPosts : Journal → List Posting → Journal
-afterPosts j [] = j
-afterPosts j (p ∷ ps) = afterPosts (afterPost j p) ps
 
 abbrev pub afterDelete : Journal → ℕ → Journal
 afterDelete j id = with (deleteOutcome (j .volume) id .volume) (j .ring)

@@ -23,7 +23,8 @@ use Rattle.journal_page.specs.Select.{wanted}
 use Rattle.kept_writer.specs.Kept.{fits}
 use Rattle.journal_page.specs.Page.{pageOf, pageReply}
 use Rattle.journal_read.specs.Read.{isDeleted, origin, deletedCheck, readAnswer}
-use Rattle.history.specs.Calls.{Read, Posting, create, post, read, Journal, replyTo, statusOf, next, runs, Widths, AllTyped}
+use Rattle.journal_post.specs.Posts.{Journal, Posting}
+use Rattle.history.specs.Calls.{Read, create, post, read, replyTo, statusOf, next, runs, Widths, AllTyped}
 use Rattle.history.specs.Log.{History, posted, opened, isPosted, shed, added, notePost, notes}
 use Rattle.history.specs.Reading.{fresh, mine, follow}
 use Rattle.history.specs.Demand.{NoCreation, above, wellFormed, ReaderPromise}

@@ -1,4 +1,3 @@
-pub mod Links
 pub mod Effects
 pub mod Sim
 pub mod Posting

@@ -15,11 +15,12 @@ use Rattle.le.specs.Numbers.{le, numberAt}
 use Rattle.le.proofs.Numbers.{unle-le, length-le}
 use Rattle.le.proofs.Runs.{and-left, and-right}
 use Rattle.status.specs.declared.Status.{Status}
-use Rattle.status.specs.declared.Status.the-variants.{Success, BufferOverflow, InvalidParameter, InvalidDeviceRequest, BufferTooSmall, DiskFull, FileCorruptError, NotAReparsePoint, VolumeNotUpgraded, JournalDeleteInProgress, JournalNotActive, JournalEntryDeleted}
+use Rattle.status.specs.declared.Status.the-variants.{Success, InvalidDeviceRequest, BufferTooSmall, FileCorruptError, JournalDeleteInProgress, JournalNotActive, JournalEntryDeleted}
 use Rattle.status.specs.Number.{number}
 use Rattle.status.specs.Check.{unless, else}
 use Rattle.status.specs.Reply.{Reply, refuse, give, guard, answer}
 use Rattle.status.proofs.Checking.{else-none, unless-true}
+use Rattle.status.proofs.Numbers.{same-status}
 use Rattle.volume.specs.declared.Volume.{Volume}
 use Rattle.volume.specs.State.{supported, isActive, isDeleting, activeCheck, goodCapacity}
 use Rattle.usn_record.specs.declared.Version.{Version}
@@ -32,11 +33,12 @@ use Rattle.journal_read.specs.Input.{filterOf, versionOf, argumentCheck}
 use Rattle.journal_page.specs.Select.{selects}
 use Rattle.journal_page.specs.Page.{Page, pageOf, empty, pageBytes, pageReply}
 use Rattle.journal_read.specs.Read.{isDeleted, origin, deletedCheck, answerFrom, readAnswer, readCheck, readReply}
-use Rattle.history.specs.Calls.{Read, read, Journal, replyTo, statusOf, next, Typed, AllTyped}
+use Rattle.journal_post.specs.Posts.{Journal}
+use Rattle.history.specs.Calls.{Read, read, replyTo, statusOf, next, Typed, AllTyped}
 use Rattle.history.specs.Log.{History, posted, note, notes}
 use Rattle.history.specs.Reading.{Received, Reader, advanced, told, Turn, mine, other, callOf, hears, follow, Carries, Own, Chosen, Hold}
 use Rattle.history.specs.Demand.{filter, between, CreatesNone, NoCreation, DroppedAbove, isNone, wellFormed}
-use Rattle.history.proofs.Links.{Chain, chain-le, chain-append}
+use Rattle.journal_post.proofs.Links.{Chain, chain-le, chain-append}
 use Rattle.history.proofs.Effects.{clash, usable}
 use Rattle.history.proofs.Sim.{Sim, Grow}
 use Rattle.history.proofs.Chains.{filter-append, between-append, between-high, between-all, between-top, after-drop, after-boundary, after-append, Boundary, boundary, mem-range, some-above, Split, split, page-alike}
@@ -389,18 +391,9 @@ own-reply j h m d t a c x bytes k = by (ltb (d .position) (h .first)) refl
 -- only SUCCESS has the number 0
 pub refusal : (a : Read) (d : Reader) (r : Reply) → (answer r .status ≡ Success → ⊥) → told a r d ≡ d
 refusal a d (refuse x) n = refl
-refusal a d (give Success bytes) n = absurd (n refl)
-refusal a d (give BufferOverflow bytes) n = refl
-refusal a d (give InvalidParameter bytes) n = refl
-refusal a d (give InvalidDeviceRequest bytes) n = refl
-refusal a d (give BufferTooSmall bytes) n = refl
-refusal a d (give DiskFull bytes) n = refl
-refusal a d (give FileCorruptError bytes) n = refl
-refusal a d (give NotAReparsePoint bytes) n = refl
-refusal a d (give VolumeNotUpgraded bytes) n = refl
-refusal a d (give JournalDeleteInProgress bytes) n = refl
-refusal a d (give JournalNotActive bytes) n = refl
-refusal a d (give JournalEntryDeleted bytes) n = refl
+refusal a d (give x bytes) n =
+    let z : number x ≡ 0 → ⊥ = λ e. n (same-status x Success e) in
+    ap (λ (b : Bool). cond b (advanced a bytes d) d) (ne-eqb (number x) 0 z)
 
 -- one call of the list
 pub stand-step : (j : Journal) (h : History) (d : Reader) → Sim j h → Stand h d → (u : Turn) → Typed (callOf u) → CreatesNone j (callOf u) → Own d u

@@ -9,9 +9,9 @@ use Rattle.volume.specs.State.{supported, isActive, goodCapacity}
 use Rattle.usn_record.specs.Layout.{Record}
 use Rattle.records.specs.Records.{joined}
 use Rattle.journal.specs.Kept.{keptBytes}
-use Rattle.history.specs.Calls.{Journal}
+use Rattle.journal_post.specs.Posts.{Journal}
 use Rattle.history.specs.Log.{History, posted}
-use Rattle.history.proofs.Links.{Chain}
+use Rattle.journal_post.proofs.Links.{Chain}
 use Rattle.history.proofs.Effects.{usable}
 
 -- while the history is live: the volume record agrees with it, and the ring's kept bytes are the records left

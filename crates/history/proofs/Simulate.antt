@@ -32,39 +32,37 @@ use Rattle.journal_post.specs.declared.Change.{Change}
 use Rattle.journal_post.specs.declared.Verdict.{Verdict}
 use Rattle.journal_post.specs.declared.Verdict.the-variants.{Skip, Reject, Accept}
 use Rattle.journal_post.specs.Post.{skipped, postedName, endOf, postCheck, checked, verdict, leaves, recordOf, postedVolume, postedRing}
-use Rattle.history.specs.Calls.{Posting, Call, Journal, Called, called, statusOf, next, runs, Effect, opens, posts, closes, nothing, effect, Widths, AllWidths, TypedEffect, Typed, AllTyped}
+use Rattle.journal_post.specs.Posts.{Journal, Posting, afterPost, afterPosts}
+use Rattle.history.specs.Calls.{Call, Called, called, statusOf, next, runs, Effect, opens, posts, closes, nothing, effect, Widths, AllWidths, TypedEffect, Typed, AllTyped}
 use Rattle.history.specs.Log.{History, posted, opened, endWith, isPosted, Shed, shed, shedTo, added, closed, notePost, notePosts, noteDelete, noteEffect, note, notes, openedBy, opening}
 use Rattle.history.specs.Demand.{isOpening, CreatesNone, NoCreation}
-use Rattle.history.proofs.Links.{Link, Chain, chain-le, chain-append, chain-eight}
-use Rattle.history.proofs.Effects.{clash, and-true, usable, with, emptied, afterPost, afterPosts, afterDelete, Does, either, unusable, does}
+use Rattle.journal_post.proofs.Links.{Link, Chain, chain-le, chain-append, chain-eight}
+use Rattle.history.proofs.Effects.{clash, and-true, usable, with, emptied, afterDelete, Does, either, unusable, does}
 use Rattle.history.proofs.Sim.{Live, Sim, Grow}
-use Rattle.history.proofs.Posting.{chain-sound, chain-chained, Cut, cut, snoc, posted-bytes}
+use Rattle.journal_post.proofs.Writing.{posted-bytes}
+use Rattle.journal_post.proofs.Keeping.{Keeping, keeping-kept, keeping-sound}
+use Rattle.history.proofs.Posting.{Cut, cut, snoc}
 
 -- ---- a live journal keeps the records left
 
 module _ (j : Journal) (h : History) (m : Sim j h) (l : Live j h) where
-  records-live : records 0 (keptBytes (j .volume) (j .ring)) ≡ whole (h .left)
-  records-live = ap (records 0) (l .bytes) ∙ joined-read 0 (h .left) (chain-sound (h .first) (h .left) (h .end) (m .shape .here))
+  live-keeping : Keeping j (h .left)
+  live-keeping =
+      record {
+        buffer = l .buffer;
+        capacity = subst (λ (n : ℕ). goodCapacity n ≡ true) (sym (l .capacity)) (m .shape .capacity);
+        chain = subst₂ (λ (x y : ℕ). Chain x (h .left) y) (sym (l .first)) (sym (l .last)) (m .shape .here);
+        eight = omega (arith, l .first, m .shape .firstEight);
+        low = omega (arith, l .last, m .shape .low);
+        span = omega (arith, l .first, l .last, l .capacity, m .shape .span);
+        bytes = l .bytes;
+      }
 
   pub kept-live : kept (j .volume) (j .ring) ≡ h .left
-  unfolding kept
-  kept-live = ap recordList records-live
-
-  marks-live : goodMarks (j .volume) (length (j .ring)) ≡ true
-  marks-live =
-      let c = capacity-facts (h .capacity) (m .shape .capacity) in
-      let le : h .first ≤ h .end = chain-le (h .first) (h .left) (h .end) (m .shape .here) in
-      let n : length (j .ring) ≡ h .capacity = l .buffer ∙ l .capacity in
-      facts-marks (j .volume) (length (j .ring)) (l .buffer) (omega (arith, n, c .0)) (omega (arith, n, c .1)) (omega (arith, n, c .2))
-      (omega (arith, l .first, m .shape .firstEight)) (omega (arith, l .last, m .shape .endEight)) (omega (arith, l .last, m .shape .low)) (omega (arith, l .first, l .last))
-      (omega (arith, l .first, l .last, n, m .shape .span))
+  kept-live = keeping-kept j (h .left) live-keeping
 
   pub sound-live : sound (j .volume) (j .ring) ≡ true
-  sound-live =
-      facts-sound (j .volume) (j .ring) marks-live
-      (ap (inChain (j .volume .first)) records-live
-      ∙ ap (λ (x : ℕ). chained x (h .left)) (l .first)
-      ∙ chain-chained (h .first) (h .left) (h .end) (m .shape .here))
+  sound-live = keeping-sound j (h .left) live-keeping
 
 -- a history that is not live goes with any journal that can't be used
 dead-sim : (j k : Journal) (h : History) → Sim j h → h .live ≡ false → usable k ≡ false → Sim k h

@@ -23,11 +23,12 @@ use Rattle.journal_page.specs.declared.Filter.{Filter}
 use Rattle.journal_read.specs.Input.{versionOf}
 use Rattle.journal_page.specs.Select.{selects}
 use Rattle.journal_page.specs.Page.{Page, pageOf, empty, pageBytes, pageReply}
-use Rattle.history.specs.Calls.{Read, Call, Journal, replyTo, next, runs, AllTyped}
+use Rattle.journal_post.specs.Posts.{Journal}
+use Rattle.history.specs.Calls.{Read, Call, replyTo, next, runs, AllTyped}
 use Rattle.history.specs.Log.{History, posted, note, notes}
 use Rattle.history.specs.Reading.{Reader, fresh, advanced, told, Turn, mine, other, callOf, follow, Carries, Chosen}
 use Rattle.history.specs.Demand.{filter, between, above, Rising, Startable, DroppedAbove, NoCreation, wellFormed, one, counts, ample, ReaderPromise, Demand3}
-use Rattle.history.proofs.Links.{Chain, chain-le, link-rises}
+use Rattle.journal_post.proofs.Links.{Chain, chain-le, link-rises}
 use Rattle.history.proofs.Effects.{clash}
 use Rattle.history.proofs.Sim.{Sim, Grow}
 use Rattle.history.proofs.Chains.{filter-chain, filter-none, above-low, above-all, above-append, after-here, after-mem, some-above, first-fits}

@@ -13,7 +13,8 @@ use Rattle.records.specs.Records.{joined}
 use Rattle.reply_walker.specs.Reply.{positionOf}
 use Rattle.journal_page.specs.declared.Filter.{Filter}
 use Rattle.journal_read.specs.Input.{startOf, filterOf, versionOf}
-use Rattle.history.specs.Calls.{Read, Call, read, Journal, replyTo, next}
+use Rattle.journal_post.specs.Posts.{Journal}
+use Rattle.history.specs.Calls.{Read, Call, read, replyTo, next}
 
 -- a SUCCESS reply as the reader has it: the version asked for, and all of the reply's bytes
 pub record Received : Type 0 where

@@ -36,7 +36,8 @@ use Rattle.file_regions.specs.declared.Asked.{Asked}
 use Rattle.file_regions.specs.declared.Region.{Region}
 use Rattle.file_regions.specs.Regions.{askedOf, regionsCheck, regionsOf, isOutside, regionsHeader, listBytes, answerRegions, regionsAnswer, regionsReply}
 use Rattle.reparse_point.specs.Reparse.{reparseCheck, reparseBytes, reparseReply}
-use Rattle.history.specs.Calls.{Posting, Journal, Call, create, post, read, delete, finish, statusOf, next}
+use Rattle.journal_post.specs.Posts.{Journal, Posting}
+use Rattle.history.specs.Calls.{Call, create, post, read, delete, finish, statusOf, next}
 use Rattle.refusals.specs.Refusal.{isRefusal, Control, readJournal, readFile, readFileTable, queryRegions, getReparsePoint, listRecords, writeRecord, copyRecord, replyOf, usnAfter, Refusals}
 
 refutes : {A : Type 0} (b : Bool) → b ≡ false → b ≡ true → A

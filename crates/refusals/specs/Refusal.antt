@@ -20,7 +20,8 @@ use Rattle.file_usn.specs.FileUsn.{fileReply, tableReply}
 use Rattle.file_regions.specs.Regions.{regionsReply}
 use Rattle.reparse_point.specs.Reparse.{reparseReply}
 use Rattle.journal_post.specs.Post.{postUsn}
-use Rattle.history.specs.Calls.{Journal, Call, create, post, read, delete, finish, statusOf, next}
+use Rattle.journal_post.specs.Posts.{Journal}
+use Rattle.history.specs.Calls.{Call, create, post, read, delete, finish, statusOf, next}
 
 -- all statuses but SUCCESS
 abbrev pub isRefusal : Status → Bool

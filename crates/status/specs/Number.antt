@@ -1,7 +1,7 @@
 -- The number of each status, as [MS-ERREF] has it.
 use Prim.Native.Nat.{ℕ}
 use Rattle.status.specs.declared.Status.{Status}
-use Rattle.status.specs.declared.Status.the-variants.{Success, BufferOverflow, InvalidParameter, InvalidDeviceRequest, BufferTooSmall, DiskFull, FileCorruptError, NotAReparsePoint, VolumeNotUpgraded, JournalDeleteInProgress, JournalNotActive, JournalEntryDeleted}
+use Rattle.status.specs.declared.Status.the-variants.{Success, BufferOverflow, InvalidParameter, InvalidDeviceRequest, BufferTooSmall, UnknownRevision, DiskFull, FileCorruptError, NotAReparsePoint, VolumeNotUpgraded, JournalDeleteInProgress, JournalNotActive, JournalEntryDeleted}
 
 abbrev pub number : Status → ℕ
 number Success = 0
@@ -9,6 +9,7 @@ number BufferOverflow = 0x80000005
 number InvalidParameter = 0xC000000D
 number InvalidDeviceRequest = 0xC0000010
 number BufferTooSmall = 0xC0000023
+number UnknownRevision = 0xC0000058
 number DiskFull = 0xC000007F
 number FileCorruptError = 0xC0000102
 number NotAReparsePoint = 0xC0000275

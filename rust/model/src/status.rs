@@ -10,9 +10,11 @@ pub const INVALID_PARAMETER: u32 = 0xC000_000D;
 pub const INVALID_DEVICE_REQUEST: u32 = 0xC000_0010;
 /// A buffer is too short.
 pub const BUFFER_TOO_SMALL: u32 = 0xC000_0023;
-/// The journal has no room or no positions left for the record.
+/// The image has a form number that is not known.
+pub const UNKNOWN_REVISION: u32 = 0xC000_0058;
+/// The journal has no room for the records, or no positions left for the record.
 pub const DISK_FULL: u32 = 0xC000_007F;
-/// A file record, the volume record or the ring is not sound.
+/// A file record, the volume record, the ring or the image is not sound.
 pub const FILE_CORRUPT_ERROR: u32 = 0xC000_0102;
 /// The file has no reparse point.
 pub const NOT_A_REPARSE_POINT: u32 = 0xC000_0275;

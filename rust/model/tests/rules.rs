@@ -597,6 +597,764 @@ fn journal_life() {
     );
 }
 
+/// The image of an empty journal with id 7 at position 4,096.
+const EMPTY_IMAGE: [u8; 32] = [
+    0x00, 0x00, 0x00, 0x00, // where a record's length would be
+    0x00, 0x00, 0x00, 0x00, // body bytes
+    0x00, 0x10, 0x00, 0x00, 0x00, 0x00, 0x00, 0x00, // first position
+    0x07, 0x00, 0x00, 0x00, 0x00, 0x00, 0x00, 0x00, // journal id
+    0x08, 0x10, 0x00, 0x00, // sum: 0x1000 + 7 + 1
+    0x01, 0x00, 0x00, 0x00, // form number
+];
+
+/// The image of a journal with one record from position 4,096. The words other
+/// than the sum add up to 0x4_8A9E_1840.
+const ONE_IMAGE: [u8; 96] = [
+    0x40, 0x00, 0x00, 0x00, // RecordLength
+    0x02, 0x00, 0x00, 0x00, // version 2.0
+    0x01, 0x02, 0x03, 0x04, 0x05, 0x06, 0x07, 0x08, // file id
+    0x11, 0x12, 0x13, 0x14, 0x15, 0x16, 0x17, 0x18, // parent id
+    0x50, 0x10, 0x00, 0x00, 0x00, 0x00, 0x00, 0x00, // Usn: 4,096 + 80
+    0xF0, 0xF1, 0xF2, 0xF3, 0xF4, 0xF5, 0xF6, 0xF7, // TimeStamp
+    0x00, 0x01, 0x00, 0x80, // Reason
+    0x21, 0x22, 0x23, 0x24, // SourceInfo
+    0x31, 0x32, 0x33, 0x34, // SecurityId
+    0x20, 0x00, 0x00, 0x00, // attributes
+    0x04, 0x00, 0x3C, 0x00, // FileNameLength, FileNameOffset
+    0x61, 0x00, 0x62, 0x00, // name
+    0x00, 0x00, 0x00, 0x00, // where a record's length would be
+    0x40, 0x00, 0x00, 0x00, // body bytes
+    0x00, 0x10, 0x00, 0x00, 0x00, 0x00, 0x00, 0x00, // first position
+    0xC1, 0xC2, 0xC3, 0xC4, 0xC5, 0xC6, 0xC7, 0xC8, // journal id
+    0x40, 0x18, 0x9E, 0x8A, // sum
+    0x01, 0x00, 0x00, 0x00, // form number
+];
+
+/// The record of `ONE_IMAGE` as the ring keeps it.
+const ONE_KEPT: [u8; 80] = [
+    0x50, 0x00, 0x00, 0x00, // RecordLength
+    0x03, 0x00, 0x00, 0x00, // version 3.0
+    0x01, 0x02, 0x03, 0x04, 0x05, 0x06, 0x07, 0x08, // file id
+    0x00, 0x00, 0x00, 0x00, 0x00, 0x00, 0x00, 0x00, // its upper half
+    0x11, 0x12, 0x13, 0x14, 0x15, 0x16, 0x17, 0x18, // parent id
+    0x00, 0x00, 0x00, 0x00, 0x00, 0x00, 0x00, 0x00, // its upper half
+    0x50, 0x10, 0x00, 0x00, 0x00, 0x00, 0x00, 0x00, // Usn
+    0xF0, 0xF1, 0xF2, 0xF3, 0xF4, 0xF5, 0xF6, 0xF7, // TimeStamp
+    0x00, 0x01, 0x00, 0x80, // Reason
+    0x21, 0x22, 0x23, 0x24, // SourceInfo
+    0x31, 0x32, 0x33, 0x34, // SecurityId
+    0x20, 0x00, 0x00, 0x00, // attributes
+    0x04, 0x00, 0x4C, 0x00, // FileNameLength, FileNameOffset
+    0x61, 0x00, 0x62, 0x00, // name
+];
+
+/// The journal id in `ONE_IMAGE`.
+const ONE_ID: u64 = 0xC8C7_C6C5_C4C3_C2C1;
+
+/// Volume, ring and image of the two journals. With a capacity of 4,096 they
+/// begin at the ring's front.
+fn literal_journals() -> [(Volume, Vec<u8>, &'static [u8]); 2] {
+    let empty = Volume {
+        state: 1,
+        id: 7,
+        first: 4096,
+        last: 4096,
+        ..volume(4096)
+    };
+    let one = Volume {
+        id: ONE_ID,
+        last: 4176,
+        ..empty
+    };
+    let mut ring = vec![0xAA; 4096];
+    let unused = ring.clone();
+    ring[..80].copy_from_slice(&ONE_KEPT);
+    [(empty, unused, &EMPTY_IMAGE), (one, ring, &ONE_IMAGE)]
+}
+
+/// Body and trailer joined, with the sum over all words but its own.
+fn sealed(body: &[u8], first: u64, id: u64, form: u32) -> Vec<u8> {
+    let mut image = body.to_vec();
+    image.extend([0; 4]);
+    image.extend((body.len() as u32).to_le_bytes());
+    image.extend(first.to_le_bytes());
+    image.extend(id.to_le_bytes());
+    image.extend([0; 4]);
+    image.extend(form.to_le_bytes());
+    resealed(image)
+}
+
+/// The same image with its sum put right.
+fn resealed(mut image: Vec<u8>) -> Vec<u8> {
+    let own = image.len() - 8;
+    image[own..own + 4].fill(0);
+    let sum = image
+        .chunks(4)
+        .map(|word| u64::from(u32::from_le_bytes(word.try_into().unwrap())))
+        .sum::<u64>();
+    image[own..own + 4].copy_from_slice(&(sum as u32).to_le_bytes());
+    image
+}
+
+/// An image of records with those names, right in everything but the names.
+fn image_of(first: u64, id: u64, names: &[&[u8]]) -> Vec<u8> {
+    let mut body = vec![];
+    let mut usn = first;
+    for name in names {
+        usn = usn.wrapping_add(plain(3, &change(1), 0, name).len() as u64);
+        body.extend(plain(2, &change(1), usn, name));
+    }
+    sealed(&body, first, id, 1)
+}
+
+/// Loads under `id` and checks that a refusal changes nothing.
+fn load_under(v: &Volume, ring: &[u8], image: &[u8], id: u64) -> (u32, Volume, Vec<u8>) {
+    let (mut after, mut kept) = (*v, ring.to_vec());
+    let status = load_journal(&mut after, &mut kept, image, id);
+    if status != SUCCESS {
+        assert_eq!((after, &kept[..]), (*v, ring));
+    }
+    (status, after, kept)
+}
+
+/// The status of loading an image into an idle journal of the longest ring.
+fn load(image: &[u8]) -> u32 {
+    load_under(&volume(65_536), &[0xAA; 65_536], image, 99).0
+}
+
+/// Saves into a buffer of `size` bytes and checks that the rest is untouched.
+fn save(v: &Volume, ring: &[u8], size: usize) -> (u32, Vec<u8>) {
+    let mut output = vec![0xCC; size];
+    let (status, count) = save_journal(v, ring, &mut output);
+    assert!(output[count..].iter().all(|&b| b == 0xCC));
+    output.truncate(count);
+    (status, output)
+}
+
+#[test]
+fn image_bytes() {
+    assert_eq!(UNKNOWN_REVISION, 0xC000_0058);
+    for (v, ring, image) in literal_journals() {
+        assert_eq!(save(&v, &ring, image.len()), (SUCCESS, image.to_vec()));
+        assert_eq!(save(&v, &ring, 999), (SUCCESS, image.to_vec()));
+        let short = save(&v, &ring, image.len() - 1);
+        assert_eq!(short, (BUFFER_TOO_SMALL, vec![]));
+
+        // Only state, id, first and last of the volume record change; what they
+        // were does not matter, but for the state and the id.
+        for (first, last) in [(0, 0), (8, 4096), (3, u64::MAX), (9000, 5000)] {
+            let idle = Volume {
+                usn: 0,
+                regions: 2,
+                reparse: 3,
+                points: 4,
+                journal: 5,
+                state: 9,
+                id: 8,
+                first,
+                last,
+                capacity: 4096,
+            };
+            let loaded = Volume {
+                state: 1,
+                id: 99,
+                first: v.first,
+                last: v.last,
+                ..idle
+            };
+            let got = load_under(&idle, &[0xAA; 4096], image, 99);
+            assert_eq!(got, (SUCCESS, loaded, ring.clone()));
+        }
+    }
+}
+
+/// A record that runs over the ring's end is kept in two parts.
+#[test]
+fn image_over_the_end() {
+    let idle = volume(4152);
+    let mut ring = vec![0xAA; 4152];
+    let (status, v, kept) = load_under(&idle, &ring, &ONE_IMAGE, 1);
+    ring[4096..].copy_from_slice(&ONE_KEPT[..56]);
+    ring[..24].copy_from_slice(&ONE_KEPT[56..]);
+    assert_eq!((status, v.first, v.last), (SUCCESS, 4096, 4176));
+    assert_eq!(kept, ring);
+    let back = Volume { id: ONE_ID, ..v };
+    assert_eq!(save(&back, &kept, 96), (SUCCESS, ONE_IMAGE.to_vec()));
+}
+
+#[test]
+fn save_order() {
+    let [_, (v, ring, _)] = literal_journals();
+    let status = |v: Volume, ring: &[u8], size| save(&v, ring, size).0;
+    let wrong = Volume {
+        journal: 0,
+        state: 2,
+        ..v
+    };
+    assert_eq!(status(wrong, &[], 0), INVALID_DEVICE_REQUEST);
+    let wrong = Volume { state: 2, ..v };
+    assert_eq!(status(wrong, &[], 0), JOURNAL_DELETE_IN_PROGRESS);
+    for state in [0, 3, u32::MAX] {
+        let wrong = Volume { state, ..v };
+        assert_eq!(status(wrong, &[], 0), JOURNAL_NOT_ACTIVE);
+    }
+    assert_eq!(status(v, &[], 0), FILE_CORRUPT_ERROR);
+    assert_eq!(status(v, &ring[..4088], 0), FILE_CORRUPT_ERROR);
+    for (first, last, capacity) in [
+        (4096, 4176, 4088),
+        (4096, 4176, u64::MAX),
+        (4092, 4176, 4096),
+        (4096, 4172, 4096),
+        (4096, 4184, 4096),
+        (4104, 4176, 4096),
+        (4176, 4096, 4096),
+        (0, 4176, 4096),
+    ] {
+        let wrong = Volume {
+            first,
+            last,
+            capacity,
+            ..v
+        };
+        assert_eq!(status(wrong, &ring, 0), FILE_CORRUPT_ERROR);
+        assert_eq!(status(wrong, &ring, 96), FILE_CORRUPT_ERROR);
+    }
+    let mut damaged = ring.clone();
+    damaged[56..60].fill(0);
+    assert_eq!(status(v, &damaged, 0), FILE_CORRUPT_ERROR);
+    for size in 0..96 {
+        assert_eq!(status(v, &ring, size), BUFFER_TOO_SMALL);
+    }
+    assert_eq!(status(v, &ring, 96), SUCCESS);
+    // A journal's own id may be any number, 0 too.
+    let (_, image) = save(&Volume { id: 0, ..v }, &ring, 96);
+    assert_eq!((&image[80..88], load(&image)), (&[0; 8][..], SUCCESS));
+}
+
+#[test]
+fn load_order() {
+    let ring = [0xAA; 1024];
+    let idle = Volume {
+        id: 6,
+        last: 4,
+        ..volume(1024)
+    };
+    let status = |v: Volume, ring: &[u8], image: &[u8], id| load_under(&v, ring, image, id).0;
+    // Eleven records of 80 and one of 152 span 1,032.
+    let mut names = vec![&b"a\0b\0"[..]; 11];
+    names.push(&[1; 76]);
+    let long = image_of(4096, 7, &names);
+    assert_eq!(long.len(), 11 * 64 + 136 + 32);
+    let mut other = long.clone();
+    other[long.len() - 4] = 2;
+    let mut damaged = long.clone();
+    damaged[0] ^= 1;
+
+    let wrong = Volume {
+        journal: 0,
+        state: 2,
+        capacity: 0,
+        ..idle
+    };
+    assert_eq!(status(wrong, &[], &other, 0), INVALID_DEVICE_REQUEST);
+    let wrong = Volume {
+        state: 2,
+        capacity: 0,
+        ..idle
+    };
+    assert_eq!(status(wrong, &[], &other, 0), JOURNAL_DELETE_IN_PROGRESS);
+    let wrong = Volume {
+        state: 1,
+        capacity: 0,
+        ..idle
+    };
+    assert_eq!(status(wrong, &[], &other, 0), INVALID_PARAMETER);
+    let wrong = Volume {
+        capacity: 0,
+        ..idle
+    };
+    assert_eq!(status(wrong, &[], &other, 0), UNKNOWN_REVISION);
+    assert_eq!(status(wrong, &[], &long, 0), FILE_CORRUPT_ERROR);
+
+    // The image, the capacity and the buffer's length, each alone.
+    for id in [0, 6, 7, 99] {
+        assert_eq!(status(idle, &ring, &damaged, id), FILE_CORRUPT_ERROR);
+        for capacity in [0, 1016, 1028, 65_544, u64::MAX] {
+            let wrong = Volume { capacity, ..idle };
+            let size = (capacity as usize).min(65_544);
+            let ring = vec![0xAA; size];
+            assert_eq!(status(wrong, &ring, &long, id), FILE_CORRUPT_ERROR);
+        }
+        for size in [0, 1016, 1032] {
+            let ring = vec![0xAA; size];
+            assert_eq!(status(idle, &ring, &long, id), FILE_CORRUPT_ERROR);
+        }
+    }
+    for id in [0, 6, 7] {
+        assert_eq!(status(idle, &ring, &long, id), INVALID_PARAMETER);
+    }
+    assert_eq!(status(idle, &ring, &long, 99), DISK_FULL);
+    let wider = Volume {
+        capacity: 1032,
+        ..idle
+    };
+    assert_eq!(status(wider, &[0xAA; 1032], &long, 99), SUCCESS);
+
+    // The image's own id may be the last one used.
+    let same = Volume { id: 7, ..idle };
+    assert_eq!(status(same, &ring, &EMPTY_IMAGE, 7), INVALID_PARAMETER);
+    assert_eq!(status(same, &ring, &EMPTY_IMAGE, 6), SUCCESS);
+    // On a volume that had no journal yet, 0 is refused all the same.
+    assert_eq!(
+        status(volume(1024), &ring, &EMPTY_IMAGE, 0),
+        INVALID_PARAMETER
+    );
+}
+
+/// Up to 31 bytes there is no form number to know.
+#[test]
+fn image_sizes() {
+    for size in 0..32 {
+        assert_eq!(load(&vec![0; size]), FILE_CORRUPT_ERROR);
+        assert_eq!(load(&vec![0xFF; size]), FILE_CORRUPT_ERROR);
+        let tail = &EMPTY_IMAGE[32 - size..];
+        assert_eq!(load(tail), FILE_CORRUPT_ERROR);
+    }
+    assert_eq!(load(&[0; 32]), UNKNOWN_REVISION);
+    assert_eq!(load(&EMPTY_IMAGE), SUCCESS);
+    for more in 1..=40 {
+        let front = [&vec![0; more][..], &EMPTY_IMAGE].concat();
+        assert_eq!(load(&front), FILE_CORRUPT_ERROR);
+        // The number is looked for in the last four bytes, wherever they are.
+        let behind = [&EMPTY_IMAGE[..], &vec![0; more]].concat();
+        assert_eq!(load(&behind), UNKNOWN_REVISION);
+    }
+    for (form, status) in [
+        (0, UNKNOWN_REVISION),
+        (1, SUCCESS),
+        (2, UNKNOWN_REVISION),
+        (0x0100_0001, UNKNOWN_REVISION),
+        (u32::MAX, UNKNOWN_REVISION),
+    ] {
+        assert_eq!(load(&sealed(&[], 4096, 7, form)), status);
+    }
+}
+
+#[test]
+fn image_cuts() {
+    let several = image_of(88, 5, &[b"a\0", &[1; 510], b"a\0b\0", &[0; 64]]);
+    for image in [&EMPTY_IMAGE[..], &ONE_IMAGE, &several] {
+        assert_eq!(load(image), SUCCESS);
+        for cut in 0..image.len() {
+            let status = load(&image[..cut]);
+            let form = cut >= 32 && image[cut - 4..cut] != [1, 0, 0, 0];
+            let expected = if form {
+                UNKNOWN_REVISION
+            } else {
+                FILE_CORRUPT_ERROR
+            };
+            assert_eq!(status, expected, "{cut}");
+        }
+    }
+    // A name that holds a trailer: cut behind it, the body's length, the sum and
+    // the form number are right. The body is not whole records, though.
+    let mut name = [0x61; 40];
+    let trailer = name.len() - 32;
+    let at = 60 + trailer;
+    name[trailer..trailer + 4].fill(0);
+    name[trailer + 4..trailer + 8].copy_from_slice(&(at as u32).to_le_bytes());
+    name[trailer + 8..trailer + 16].copy_from_slice(&4096u64.to_le_bytes());
+    name[trailer + 16..trailer + 24].copy_from_slice(&7u64.to_le_bytes());
+    name[trailer + 28..].copy_from_slice(&1u32.to_le_bytes());
+    let cut = resealed(image_of(4096, 8, &[&name])[..at + 32].to_vec());
+    name.copy_from_slice(&cut[60..]);
+    let whole = image_of(4096, 8, &[&name]);
+    assert_eq!((load(&whole), whole.starts_with(&cut)), (SUCCESS, true));
+    assert_eq!(load(&cut), FILE_CORRUPT_ERROR);
+}
+
+#[test]
+fn image_words() {
+    let several = image_of(88, 5, &[b"a\0", &[1; 510], b"a\0b\0"]);
+    let mut random = Random(3);
+    for image in [&EMPTY_IMAGE[..], &ONE_IMAGE, &several] {
+        for at in (0..image.len()).step_by(4) {
+            let old = u32::from_le_bytes(image[at..at + 4].try_into().unwrap());
+            let mut words = vec![0, 1, 2, u32::MAX, !old, old.wrapping_add(1)];
+            words.extend([old.wrapping_sub(1), old.wrapping_mul(2)]);
+            words.extend((0..32).map(|bit| old ^ 1 << bit));
+            words.extend((0..20).map(|_| (random.below(1 << 31) * 2 + random.below(2)) as u32));
+            words.retain(|&word| word != old);
+            for word in words {
+                let mut image = image.to_vec();
+                image[at..at + 4].copy_from_slice(&word.to_le_bytes());
+                let expected = if at + 4 == image.len() {
+                    UNKNOWN_REVISION
+                } else {
+                    FILE_CORRUPT_ERROR
+                };
+                assert_eq!(load(&image), expected, "{at} {word}");
+            }
+        }
+    }
+}
+
+/// Images whose sum is right and something else is not.
+#[test]
+fn image_faults() {
+    // Bytes of the record: a changed bit matters everywhere but in fields that
+    // may hold any value (ids, time, source, security, name) or any value but 0
+    // (Reason, attributes).
+    for at in 0..64 {
+        let mut image = ONE_IMAGE.to_vec();
+        image[at] ^= 0x40;
+        let free = matches!(at, 8..=23 | 32..=55 | 60..=63);
+        let status = if free { SUCCESS } else { FILE_CORRUPT_ERROR };
+        assert_eq!(load(&resealed(image)), status, "{at}");
+    }
+    for field in [40, 52] {
+        let mut image = ONE_IMAGE.to_vec();
+        image[field..field + 4].fill(0);
+        assert_eq!(load(&resealed(image)), FILE_CORRUPT_ERROR);
+    }
+    // Padding.
+    let mut image = image_of(8, 1, &[b"a\0"]);
+    assert_eq!((image.len(), load(&image)), (96, SUCCESS));
+    for at in [62, 63] {
+        image[at] = 1;
+        assert_eq!(load(&resealed(image.clone())), FILE_CORRUPT_ERROR);
+        image[at] = 0;
+    }
+    // The zero word and the body's length.
+    for image in [&EMPTY_IMAGE[..], &ONE_IMAGE] {
+        let trailer = image.len() - 32;
+        for at in trailer..trailer + 8 {
+            for bit in 0..8 {
+                let mut image = image.to_vec();
+                image[at] ^= 1 << bit;
+                assert_eq!(load(&resealed(image)), FILE_CORRUPT_ERROR);
+            }
+        }
+        // Any id.
+        for at in trailer + 16..trailer + 24 {
+            let mut image = image.to_vec();
+            image[at] ^= 0x80;
+            assert_eq!(load(&resealed(image)), SUCCESS);
+        }
+    }
+    // The record is short of its last bytes.
+    for size in (4..64).step_by(4) {
+        let image = sealed(&ONE_IMAGE[..size], 4096, 7, 1);
+        assert_eq!(load(&image), FILE_CORRUPT_ERROR);
+    }
+    // Zeroes between record and trailer are no record.
+    for zeroes in [4, 8, 64] {
+        let body = [&ONE_IMAGE[..64], &vec![0; zeroes]].concat();
+        assert_eq!(load(&sealed(&body, 4096, 7, 1)), FILE_CORRUPT_ERROR);
+    }
+}
+
+#[test]
+fn image_sums() {
+    // Words other than the sum that add up to 2^32: a sum over itself, too,
+    // would agree with every number here.
+    let image = sealed(&[], 4096, 0xFFFF_EFFF, 1);
+    assert_eq!((&image[24..28], load(&image)), (&[0; 4][..], SUCCESS));
+    for sum in [1u32, 2, 4096, u32::MAX] {
+        let mut image = image.clone();
+        image[24..28].copy_from_slice(&sum.to_le_bytes());
+        assert_eq!(load(&image), FILE_CORRUPT_ERROR);
+    }
+    // Without the form number; without the trailer; twice; in opposite order.
+    let whole = u32::from_le_bytes(ONE_IMAGE[88..92].try_into().unwrap());
+    let body = ONE_IMAGE[..64].chunks(4).fold(0u32, |sum, word| {
+        sum.wrapping_add(u32::from_le_bytes(word.try_into().unwrap()))
+    });
+    for sum in [
+        whole - 1,
+        body,
+        whole.wrapping_mul(2),
+        whole.swap_bytes(),
+        whole.wrapping_neg(),
+        0,
+    ] {
+        let mut image = ONE_IMAGE;
+        image[88..92].copy_from_slice(&sum.to_le_bytes());
+        assert_eq!(load(&image), FILE_CORRUPT_ERROR);
+    }
+}
+
+#[test]
+fn image_names_and_versions() {
+    for (length, status) in [
+        (0, FILE_CORRUPT_ERROR),
+        (1, FILE_CORRUPT_ERROR),
+        (2, SUCCESS),
+        (3, FILE_CORRUPT_ERROR),
+        (4, SUCCESS),
+        (6, SUCCESS),
+        (508, SUCCESS),
+        (509, FILE_CORRUPT_ERROR),
+        (510, SUCCESS),
+        (511, FILE_CORRUPT_ERROR),
+        (512, FILE_CORRUPT_ERROR),
+    ] {
+        let name = vec![0x61; length];
+        assert_eq!(load(&image_of(0, 1, &[&name])), status, "{length}");
+        let behind = image_of(0, 1, &[b"a\0", &name, b"b\0"]);
+        assert_eq!(load(&behind), status, "{length}");
+    }
+    // Records in V3 form, under this form's number and under the next.
+    // The second Usn is where a record 16 bytes longer than stored would end.
+    for usn in [80, 96] {
+        let body = plain(3, &change(1), usn, b"a\0");
+        assert_eq!(load(&sealed(&body, 0, 1, 1)), FILE_CORRUPT_ERROR);
+        assert_eq!(load(&sealed(&body, 0, 1, 2)), UNKNOWN_REVISION);
+    }
+    let mixed = [
+        plain(2, &change(1), 80, b"a\0"),
+        plain(3, &change(1), 160, b"a\0"),
+    ];
+    assert_eq!(load(&sealed(&mixed.concat(), 0, 1, 1)), FILE_CORRUPT_ERROR);
+    let none = plain(2, &change(0), 80, b"a\0");
+    assert_eq!(load(&sealed(&none, 0, 1, 1)), FILE_CORRUPT_ERROR);
+}
+
+#[test]
+fn image_chain() {
+    let pair = |first: u64, usns: [u64; 2]| {
+        let body = usns.map(|usn| plain(2, &change(1), usn, b"a\0")).concat();
+        load(&sealed(&body, first, 1, 1))
+    };
+    assert_eq!(pair(800, [880, 960]), SUCCESS);
+    for usns in [
+        [864, 928], // by the V2 length
+        [880, 944],
+        [864, 960],
+        [800, 880], // where the record begins
+        [960, 880],
+        [880, 880],
+        [880, 968],
+        [888, 960],
+        [80, 160],
+        [880 + (1 << 63), 960 + (1 << 63)],
+    ] {
+        assert_eq!(pair(800, usns), FILE_CORRUPT_ERROR, "{usns:?}");
+    }
+    assert_eq!(pair(792, [880, 960]), FILE_CORRUPT_ERROR);
+    assert_eq!(pair(808, [880, 960]), FILE_CORRUPT_ERROR);
+    assert_eq!(pair(0, [80, 160]), SUCCESS);
+
+    // The first position is divisible by 8.
+    for first in 0..=16 {
+        let status = if first % 8 == 0 {
+            SUCCESS
+        } else {
+            FILE_CORRUPT_ERROR
+        };
+        assert_eq!(load(&image_of(first, 1, &[])), status);
+        assert_eq!(load(&image_of(first, 1, &[b"a\0"])), status);
+    }
+    // No position is past 2^63 - 1.
+    let end = 1u64 << 63;
+    for (first, records, status) in [
+        (end - 8, 0, SUCCESS),
+        (end - 1, 0, FILE_CORRUPT_ERROR),
+        (end, 0, FILE_CORRUPT_ERROR),
+        (u64::MAX - 7, 0, FILE_CORRUPT_ERROR),
+        (end - 88, 1, SUCCESS),
+        (end - 80, 1, FILE_CORRUPT_ERROR),
+        (end - 168, 2, SUCCESS),
+        (end - 160, 2, FILE_CORRUPT_ERROR),
+        (end - 8, 1, FILE_CORRUPT_ERROR),
+        (end, 1, FILE_CORRUPT_ERROR),
+        (u64::MAX - 79, 1, FILE_CORRUPT_ERROR),
+        (u64::MAX - 7, 2, FILE_CORRUPT_ERROR),
+    ] {
+        let image = image_of(first, 1, &vec![&b"a\0"[..]; records]);
+        assert_eq!(load(&image), status, "{first} {records}");
+    }
+}
+
+#[test]
+fn image_span() {
+    // Names of 52 bytes make records of 128: 512 of them span 65,536.
+    let name = [0x61; 52];
+    let mut names = vec![&name[..]; 512];
+    let full = image_of(808, 1, &names);
+    assert_eq!(full.len(), 512 * 112 + 32);
+    assert_eq!(load(&full), SUCCESS);
+    let smaller = |capacity: u64, image: &[u8]| {
+        let ring = vec![0; capacity as usize];
+        load_under(&volume(capacity), &ring, image, 99).0
+    };
+    assert_eq!(smaller(65_528, &full), DISK_FULL);
+    assert_eq!(smaller(1024, &full), DISK_FULL);
+    // Eight bytes more, and one record more. The capacity has no part in it.
+    let longer = [0x61; 60];
+    names[511] = &longer;
+    let eight = image_of(808, 1, &names);
+    names[511] = &name;
+    names.push(b"a\0");
+    let one = image_of(808, 1, &names);
+    for image in [eight, one] {
+        assert_eq!(load(&image), FILE_CORRUPT_ERROR);
+        assert_eq!(smaller(1024, &image), FILE_CORRUPT_ERROR);
+    }
+    // A span of the whole capacity fits, eight bytes more do not.
+    let image = image_of(808, 1, &[&name[..]; 8]);
+    assert_eq!(smaller(1024, &image), SUCCESS);
+    let mut names = [&name[..]; 8];
+    names[0] = &longer;
+    assert_eq!(smaller(1024, &image_of(808, 1, &names)), DISK_FULL);
+    assert_eq!(smaller(1032, &image_of(808, 1, &names)), SUCCESS);
+}
+
+/// A loaded journal takes posts, and its records are those that were saved.
+#[test]
+fn image_after_a_restart() {
+    let (v, ring) = thirteen();
+    let (status, image) = save(&v, &ring, 800);
+    assert_eq!((status, image.len()), (SUCCESS, 12 * 64 + 32));
+    let all = |id| ask(0, u32::MAX, 0, id, Some((3, 3)));
+    let before = read(&v, &ring, &all(3), 2000);
+
+    // The volume as the restart finds it, and as a fresh one.
+    for (old, capacity) in [(3, 1024), (0, 4096)] {
+        let idle = Volume {
+            id: old,
+            ..volume(capacity)
+        };
+        let lost = vec![0x55; capacity as usize];
+        assert_eq!(load_under(&idle, &lost, &image, 3).0, INVALID_PARAMETER);
+        let (status, mut w, mut kept) = load_under(&idle, &lost, &image, 4);
+        assert_eq!((status, w.first, w.last), (SUCCESS, 80, 1040));
+        assert_eq!(read(&w, &kept, &all(3), 2000).0, INVALID_PARAMETER);
+        assert_eq!(read(&w, &kept, &all(4), 2000), before);
+        let mut usn = 0;
+        let posted = post(&mut w, &mut kept, &change(1), b"a\0", &mut usn);
+        assert_eq!((posted, usn), (SUCCESS, 1120));
+        let first = if capacity == 1024 { 160 } else { 80 };
+        assert_eq!((w.first, w.last), (first, 1120));
+        assert_eq!(load_under(&w, &kept, &image, 5).0, INVALID_PARAMETER);
+    }
+}
+
+/// A load leaves what creation at the first position and posts of the kept
+/// records would, byte for byte, and saving again gives the same image but for
+/// the id and the sum.
+#[test]
+fn random_images() {
+    let mut random = Random(4);
+    for round in 0..300u64 {
+        let capacities = [1024, 1032, 1480, 4096, 65_536];
+        let capacity = capacities[round as usize % 5];
+        let mut v = Volume {
+            last: 8 * random.below(1 << 30),
+            ..volume(capacity)
+        };
+        let mut ring = vec![0; capacity as usize];
+        assert_eq!(create(&mut v, 9), SUCCESS);
+        let mut list: Vec<(Change, u64, Vec<u8>)> = vec![];
+        for _ in 0..random.below(200) {
+            let c = Change {
+                file: random.below(1 << 31) << 33,
+                parent: random.below(1 << 31),
+                time: random.below(1 << 31) << 40,
+                reason: 1 + random.below(1 << 31) as u32,
+                source: random.below(1 << 31) as u32,
+                security: random.below(1 << 31) as u32,
+                attributes: random.below(3) as u32,
+            };
+            let size = if random.below(4) == 0 { 255 } else { 12 };
+            let length = 2 + 2 * random.below(size) as usize;
+            let name: Vec<u8> = (0..length).map(|_| random.below(256) as u8).collect();
+            let mut usn = 0;
+            let status = post(&mut v, &mut ring, &c, &name, &mut usn);
+            assert_eq!(status, SUCCESS);
+            list.push((c, usn, name));
+        }
+        list.retain(|record| record.1 > v.first);
+        let body: Vec<u8> = list
+            .iter()
+            .flat_map(|(c, usn, name)| plain(2, c, *usn, name))
+            .collect();
+        let image = sealed(&body, v.first, 9, 1);
+        let size = image.len();
+        assert_eq!(save(&v, &ring, size + 7), (SUCCESS, image.clone()));
+        assert_eq!(save(&v, &ring, size - 1).0, BUFFER_TOO_SMALL);
+
+        let other = capacities[random.below(5) as usize];
+        let idle = Volume {
+            last: random.below(1 << 31),
+            id: 10,
+            ..volume(other)
+        };
+        let lent: Vec<u8> = (0..other).map(|_| random.below(256) as u8).collect();
+        let (status, w, kept) = load_under(&idle, &lent, &image, 11);
+        if v.last - v.first > other {
+            assert_eq!(status, DISK_FULL);
+            continue;
+        }
+        let mut expected = Volume {
+            last: v.first,
+            ..idle
+        };
+        let mut written = lent;
+        let mut usn = v.first;
+        assert_eq!(create(&mut expected, 11), SUCCESS);
+        for (c, _, name) in &list {
+            let status = post(&mut expected, &mut written, c, name, &mut usn);
+            assert_eq!(status, SUCCESS);
+        }
+        assert_eq!((status, w), (SUCCESS, expected));
+        assert!(kept == written);
+        assert_eq!((w.first, w.last), (v.first, v.last));
+        let again = sealed(&body, v.first, 11, 1);
+        assert_eq!(save(&w, &kept, size), (SUCCESS, again));
+    }
+}
+
+/// Loading never panics on a damaged image, and what it accepts can be saved
+/// again as the same body.
+#[test]
+fn damaged_images() {
+    let mut random = Random(5);
+    let whole = image_of(88, 5, &[b"a\0", &[1; 30], b"a\0b\0"]);
+    let ring = vec![0xAA; 1024];
+    let mut seen = [0; 3];
+    for _ in 0..60_000 {
+        let mut image = whole.clone();
+        for _ in 0..random.below(3) {
+            let at = random.below(image.len() as u64) as usize;
+            image[at] = match random.below(3) {
+                0 => 0xFF,
+                1 => 0,
+                _ => random.below(256) as u8,
+            };
+        }
+        if random.below(4) == 0 {
+            image.truncate(random.below(whole.len() as u64 + 1) as usize);
+        }
+        if image.len() >= 32 && image.len().is_multiple_of(4) && random.below(4) != 0 {
+            image = resealed(image);
+        }
+        let (status, v, kept) = load_under(&volume(1024), &ring, &image, u64::MAX);
+        match status {
+            SUCCESS => {
+                let (status, saved) = save(&v, &kept, image.len());
+                let end = image.len() - 16;
+                assert_eq!((status, &saved[..end]), (SUCCESS, &image[..end]));
+                seen[0] += 1;
+            }
+            FILE_CORRUPT_ERROR => seen[1] += 1,
+            UNKNOWN_REVISION => seen[2] += 1,
+            _ => panic!("{status:#x}"),
+        }
+    }
+    assert!(seen.iter().all(|&count| count > 1000), "{seen:?}");
+}
+
 #[test]
 fn records_read_back() {
     for version in [2, 3] {
@@ -850,9 +1608,10 @@ fn garbage() {
         let cut = |bytes: &[u8], n: u64| bytes[..bytes.len().min(n as usize)].to_vec();
         let asked = cut(&asked, 30 + random.below(40));
         let query = cut(&query, random.below(60));
-        for call in 0..4 {
+        for call in 0..5 {
             let (status, count) = match call {
                 0 => read_journal(&v, &ring, &asked, &mut output),
+                4 => save_journal(&v, &ring, &mut output),
                 1 => read_file(&v, &f, 1, &kept, &links, &query, &mut output),
                 2 => query_file_regions(&v, &f, &query, &mut output),
                 _ => get_reparse_point(&v, &f, &asked, &mut output),
