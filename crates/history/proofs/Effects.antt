@@ -4,11 +4,12 @@ use mathlib.Core.Path.{_≡_, refl, ap, _∙_}
 use mathlib.Core.Logic.{_⊎_, inl, inr}
 use mathlib.Core.Bool.{Bool, true, false, not, and-false, _&&_, _||_}
 use mathlib.Core.Option.{Option, none, some}
-use mathlib.Core.List.{List, [], _∷_}
+use mathlib.Core.List.{List, [], _∷_, map}
 use Prim.Native.Nat.{ℕ}
 use native.Mathlib.Omega.{arith}
 use lib.Dec.{eqb}
 use lib.ListN.{length}
+use Rattle.le.specs.Bytes.{Bytes}
 use Rattle.le.proofs.Runs.{and-left, and-right}
 use Rattle.status.specs.declared.Status.{Status}
 use Rattle.status.specs.declared.Status.the-variants.{Success, InvalidParameter, FileCorruptError, JournalDeleteInProgress, JournalNotActive}
@@ -16,8 +17,15 @@ use Rattle.status.specs.Check.{unless, else}
 use Rattle.volume.specs.declared.Volume.{Volume}
 use Rattle.volume.specs.State.{supported, isActive, isDeleting, goodCapacity, goodPosition}
 use Rattle.volume.specs.Calls.{performed, inState, atPositions, createCheck, created, deleteOutcome, finishCheck}
+use Rattle.usn_record.specs.declared.Version.the-variants.{V2}
+use Rattle.usn_record.specs.Layout.{Record}
+use Rattle.records.proofs.Runs.{AllSound}
 use Rattle.journal_post.specs.Posts.{Journal, Posting, afterPost, afterPosts}
-use Rattle.history.specs.Calls.{Call, create, post, read, delete, finish, Called, called, Effect, opens, posts, closes, nothing, effect}
+use Rattle.image.specs.Image.{Image}
+use Rattle.image.proofs.RoundTrip.{read-fit, read-storable, fitting}
+use Rattle.image_load.specs.Load.{stored, postingOf, restored, settled, loadCheck, loadOutcome}
+use Rattle.image_load.proofs.Restoring.{load-none, load-passed, load-succeeds, created-made}
+use Rattle.history.specs.Calls.{Call, create, post, read, delete, finish, save, load, Called, leaving, called, Effect, opens, posts, closes, nothing, loadEffect, effect, Widths, Typed}
 
 pub clash : {A : Type 0} → _≡_ {A = ℕ} 0 1 → A
 clash z = absurd (omega arith)
@@ -105,9 +113,77 @@ finish-does j = by (isActive (j .volume)) refl
         let u : usable j ≡ false = unusable (j .volume) (j .ring) q in
         inr (u, either (finishCheck (j .volume)) (j .volume) (inState (j .volume) 0) (λ (x : Volume). usable (with x (j .ring)) ≡ false) u (unusable (inState (j .volume) 0) (j .ring) refl))
 
+-- a load
+module _ (j : Journal) (s : List ℕ) (id : ℕ) where
+  abbrev check : Option Status
+  check = loadCheck (j .volume) (length (j .ring)) s id
+
+  abbrev ends : Option Status → Option Image → Called
+  ends o i = leaving (performed o (j .volume) (restored j id i .volume)) (settled o (j .ring) (restored j id i .ring))
+
+  ends-refused : (o : Option Status) (i : Option Image) → (ends o i .status ≡ Success → ⊥) → ends o i .journal ≡ j
+  ends-refused none i n = absurd (n refl)
+  ends-refused (some x) i n = refl
+
+  loads-none : stored s ≡ none → ends check none .journal ≡ j
+  loads-none e = let k = load-none (j .volume) (length (j .ring)) s id e in ap (λ (o : Option Status). ends o none .journal) (k .1)
+
+  loads-some : (i : Image) → stored s ≡ some i → ends check (some i) .status ≡ Success → Opens j (i .first) id (map postingOf (i .records)) (ends check (some i) .journal)
+  loads-some i e q =
+      let c : check ≡ none = load-succeeds (j .volume) (length (j .ring)) s id (restored j id (some i) .volume) q in
+      let p = load-passed (j .volume) (length (j .ring)) s id i e c in
+      let f = fitting (i .first) (i .records) (read-fit V2 s i e) in
+      record {
+        capacity = p .capacity;
+        position = f .position;
+        journal =
+            ap (λ (o : Option Status). ends o (some i) .journal) c
+            ∙ ap (λ (k : Journal). afterPosts k (map postingOf (i .records))) (created-made (j .volume) (j .ring) id i (f .position) p);
+      }
+
+  load-does : Does j (loadEffect id (stored s)) (called j (load s id))
+  load-does = by (stored s) refl
+    where
+      by : (o : Option Image) → stored s ≡ o → Does j (loadEffect id o) (ends check o)
+      by none e = inl (loads-none e)
+      by (some i) e = (loads-some i e, ends-refused check (some i))
+
 pub does : (j : Journal) (c : Call) → Does j (effect c) (called j c)
 does j (create id) = (create-opens j id, create-refused j id)
 does j (post p) = refl
 does j (read a) = inl refl
 does j (delete id) = refl
 does j finish = finish-does j
+does j (save room) = inl refl
+does j (load s id) = load-does j s id
+
+-- ---- the arguments of a call give its effect's postings their types
+
+abbrev pub AllWidths : List Posting → Type 0
+AllWidths [] = Unit {0}
+AllWidths (p ∷ ps) = Widths (p .change) × AllWidths ps
+
+abbrev pub TypedEffect : Effect → Type 0
+TypedEffect (opens at id ps) = AllWidths ps
+TypedEffect (posts p) = Widths (p .change)
+TypedEffect (closes id) = Unit {0}
+TypedEffect nothing = Unit {0}
+
+record-widths : (rs : List Record) → AllSound rs → AllWidths (map postingOf rs)
+record-widths [] k = tt
+record-widths (r ∷ rs) k =
+    let z = k .0 .sized in
+    (record { file = z .file; parent = z .parent; time = z .time; reason = z .reason; source = z .source; security = z .security; attributes = z .attributes }, record-widths rs (k .1))
+
+load-typed : (s : List ℕ) (id : ℕ) (o : Option Image) → Bytes s → stored s ≡ o → TypedEffect (loadEffect id o)
+load-typed s id none b e = tt
+load-typed s id (some i) b e = record-widths (i .records) (read-storable V2 s i b e .sound)
+
+pub typed-effect : (c : Call) → Typed c → TypedEffect (effect c)
+typed-effect (create id) t = tt
+typed-effect (post p) t = t
+typed-effect (read a) t = tt
+typed-effect (delete id) t = tt
+typed-effect finish t = tt
+typed-effect (save room) t = tt
+typed-effect (load s id) t = load-typed s id (stored s) t refl

@@ -8,13 +8,13 @@ use mathlib.Core.List.{List, [], _∷_, _++_, append-assoc, append-nil, nil≢co
 use Prim.Native.Nat.{ℕ, zero, suc, _+_, _-_, _%_, _^_, _≤_, _<_}
 use native.Mathlib.Omega.{arith}
 use lib.Dec.{leb, ltb, eqb}
-use lib.ListN.{length, take}
+use lib.ListN.{length}
 use borrow.Author.Tests.{ltb-true, eqb-true, le-leb, eq-eqb}
 use Rattle.le.proofs.Runs.{and-left, and-right}
 use Rattle.status.specs.declared.Status.{Status}
 use Rattle.status.specs.declared.Status.the-variants.{Success, InvalidParameter, FileCorruptError, JournalDeleteInProgress, JournalNotActive, DiskFull}
 use Rattle.status.specs.Check.{unless, else}
-use Rattle.ring.specs.Ring.{rotated, placed}
+use Rattle.ring.specs.Ring.{placed}
 use Rattle.volume.specs.declared.Volume.{Volume}
 use Rattle.volume.specs.State.{supported, isActive, activeCheck, goodCapacity, goodPosition}
 use Rattle.volume.specs.Calls.{performed, inState, atPositions, deleteCheck}
@@ -33,14 +33,14 @@ use Rattle.journal_post.specs.declared.Verdict.{Verdict}
 use Rattle.journal_post.specs.declared.Verdict.the-variants.{Skip, Reject, Accept}
 use Rattle.journal_post.specs.Post.{skipped, postedName, endOf, postCheck, checked, verdict, leaves, recordOf, postedVolume, postedRing}
 use Rattle.journal_post.specs.Posts.{Journal, Posting, afterPost, afterPosts}
-use Rattle.history.specs.Calls.{Call, Called, called, statusOf, next, runs, Effect, opens, posts, closes, nothing, effect, Widths, AllWidths, TypedEffect, Typed, AllTyped}
+use Rattle.history.specs.Calls.{Call, Called, called, statusOf, next, runs, Effect, opens, posts, closes, nothing, effect, Widths, Typed, AllTyped}
 use Rattle.history.specs.Log.{History, posted, opened, endWith, isPosted, Shed, shed, shedTo, added, closed, notePost, notePosts, noteDelete, noteEffect, note, notes, openedBy, opening}
 use Rattle.history.specs.Demand.{isOpening, CreatesNone, NoCreation}
 use Rattle.journal_post.proofs.Links.{Link, Chain, chain-le, chain-append, chain-eight}
-use Rattle.history.proofs.Effects.{clash, and-true, usable, with, emptied, afterDelete, Does, either, unusable, does}
+use Rattle.history.proofs.Effects.{clash, and-true, usable, with, emptied, afterDelete, Does, either, unusable, does, AllWidths, TypedEffect, typed-effect}
 use Rattle.history.proofs.Sim.{Live, Sim, Grow}
 use Rattle.journal_post.proofs.Writing.{posted-bytes}
-use Rattle.journal_post.proofs.Keeping.{Keeping, keeping-kept, keeping-sound}
+use Rattle.journal_post.proofs.Keeping.{Keeping, empty-kept, keeping-kept, keeping-sound}
 use Rattle.history.proofs.Posting.{Cut, cut, snoc}
 
 -- ---- a live journal keeps the records left
@@ -390,17 +390,11 @@ module _ (j : Journal) (h : History) (m : Sim j h) where
   effect-step nothing k (inr d) t r = nothing-step (k .journal) (d .0) (d .1)
 
   pub sim-step : (c : Call) → Typed c → CreatesNone j c → Sim (next j c) (note h c) × Grow h (note h c)
-  sim-step c t r = effect-step (effect c) (called j c) (does j c) t r
+  sim-step c t r = effect-step (effect c) (called j c) (does j c) (typed-effect c t) r
 
 -- ---- an opening that succeeds
 
 module _ (j : Journal) (p id : ℕ) (cap : goodCapacity (j .volume .capacity) ≡ true) (pos : goodPosition p ≡ true) where
-  none-kept : keptBytes (emptied j p id .volume) (j .ring) ≡ joined []
-  unfolding keptBytes joined
-  none-kept =
-      let z : p - p ≡ 0 = omega arith in
-      ap (λ (n : ℕ). take n (rotated (j .ring) (p % length (j .ring)))) z
-
   opened-sim : Sim (emptied j p id) (opened (j .volume) (length (j .ring)) p id)
   unfolding opened
   opened-sim =
@@ -415,7 +409,7 @@ module _ (j : Journal) (p id : ℕ) (cap : goodCapacity (j .volume .capacity) �
           id = refl;
           first = refl;
           last = refl;
-          bytes = none-kept;
+          bytes = empty-kept (emptied j p id .volume) (j .ring) refl;
         };
         dead = λ q. q;
       }
@@ -437,7 +431,7 @@ effect-opens j nothing k h d t s o = clash cc
 
 -- what a call opens goes together with its history
 pub opening-sim : (j : Journal) (c : Call) (h : History) → Typed c → statusOf j c ≡ Success → opening (j .volume) (length (j .ring)) c ≡ some h → Sim (next j c) h
-opening-sim j c h t s o = effect-opens j (effect c) (called j c) h (does j c) t s o
+opening-sim j c h t s o = effect-opens j (effect c) (called j c) h (does j c) (typed-effect c t) s o
 
 -- ---- lists of calls
 

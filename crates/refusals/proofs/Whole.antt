@@ -37,8 +37,12 @@ use Rattle.file_regions.specs.declared.Region.{Region}
 use Rattle.file_regions.specs.Regions.{askedOf, regionsCheck, regionsOf, isOutside, regionsHeader, listBytes, answerRegions, regionsAnswer, regionsReply}
 use Rattle.reparse_point.specs.Reparse.{reparseCheck, reparseBytes, reparseReply}
 use Rattle.journal_post.specs.Posts.{Journal, Posting}
-use Rattle.history.specs.Calls.{Call, create, post, read, delete, finish, statusOf, next}
-use Rattle.refusals.specs.Refusal.{isRefusal, Control, readJournal, readFile, readFileTable, queryRegions, getReparsePoint, listRecords, writeRecord, copyRecord, replyOf, usnAfter, Refusals}
+use Rattle.usn_record.specs.declared.Version.the-variants.{V2}
+use Rattle.image.specs.Image.{imageOf}
+use Rattle.image_save.specs.Save.{saveCheck, content, imageReply, saveAs}
+use Rattle.image_load.specs.Load.{stored, restored, settled, loadCheck}
+use Rattle.history.specs.Calls.{Call, create, post, read, delete, finish, save, load, statusOf, next}
+use Rattle.refusals.specs.Refusal.{isRefusal, Control, readJournal, saveJournal, readFile, readFileTable, queryRegions, getReparsePoint, listRecords, writeRecord, copyRecord, replyOf, usnAfter, Refusals}
 
 refutes : {A : Type 0} (b : Bool) → b ≡ false → b ≡ true → A
 refutes b e h = let z : _≡_ {A = Bool} false true = sym e ∙ h in let n : _≡_ {A = ℕ} 0 1 = cc in absurd (omega arith)
@@ -98,11 +102,14 @@ plain-asked f a room =
     plain-cond (isOutside (f .eof) (a .offset)) (give Success []) (answerRegions rs room) refl (plain-regions rs room)
 
 plain-control : (c : Control) (room : ℕ) → Plain (replyOf c room)
-unfolding readReply regionsReply reparseReply
+unfolding readReply saveAs imageReply regionsReply reparseReply
 plain-control (readJournal v ring input) room =
     let reply = readAnswer (v .first) (kept v ring) input room in
     let corrupt = unless (sound v ring) FileCorruptError in
     plain-guard (readCheck v input room) (guard corrupt reply) (plain-guard corrupt reply (plain-read (v .first) (kept v ring) input room))
+plain-control (saveJournal v ring) room =
+    let image = imageOf V2 (content v ring) in
+    plain-guard (saveCheck v ring) (imageReply image room) (plain-guard (unless (leb (length image) room) BufferTooSmall) (give Success image) refl)
 plain-control (readFile v f parent pool links input) room = plain-named v f parent (goodLinks pool links) (nameAt pool (chosenLink links)) input room
 plain-control (readFileTable v f parent pool places lengths shorts input) room =
     plain-named v f parent (goodTable pool places lengths shorts) (nameAt pool (chosenLink (linksOf places lengths shorts))) input room
@@ -118,6 +125,10 @@ plain-control (copyRecord bytes) room = plain-guard (unless (leb (length bytes) 
 performed-refusal : (k : Option Status) (old new : Volume) → isRefusal (performed k old new .status) ≡ true → performed k old new .volume ≡ old
 performed-refusal none old new h = refutes false refl h
 performed-refusal (some x) old new h = refl
+
+settled-refusal : {A : Type 0} (k : Option Status) (old new : Volume) (x y : A) → isRefusal (performed k old new .status) ≡ true → settled k x y ≡ x
+settled-refusal none old new x y h = refutes false refl h
+settled-refusal (some z) old new x y h = refl
 
 posted-refusal : {A : Type 0} (d : Verdict) (old new : A) → isRefusal (verdictStatus d) ≡ true → leaves d old new ≡ old
 posted-refusal Skip old new h = refl
@@ -140,6 +151,15 @@ call-refusal j (post p) usn h =
 call-refusal j (read a) usn h = (refl, refl)
 call-refusal j (delete id) usn h = let v = j .volume in (with-ring j (performed-refusal (deleteCheck v id) v (inState v deleting) h), refl)
 call-refusal j finish usn h = let v = j .volume in (with-ring j (performed-refusal (finishCheck v) v (inState v idle) h), refl)
+call-refusal j (save room) usn h = (refl, refl)
+call-refusal j (load s id) usn h =
+    let v = j .volume in
+    let k = loadCheck v (length (j .ring)) s id in
+    let new = restored j id (stored s) in (
+      ap₂ (λ (w : Volume) (ring : List ℕ). record { volume = w; ring = ring }) (performed-refusal k v (new .volume) h)
+          (settled-refusal k v (new .volume) (j .ring) (new .ring) h),
+      refl,
+    )
 
 pub refusals : Refusals
 refusals = record { controls = λ c room h. plain-refusal (replyOf c room) (plain-control c room) h; calls = call-refusal }

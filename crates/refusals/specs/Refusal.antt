@@ -16,12 +16,13 @@ use Rattle.file_links.specs.declared.Link.{Link}
 use Rattle.record_writer.specs.Write.{writeReply, copyReply}
 use Rattle.usn_listing.specs.Listing.{listReply}
 use Rattle.journal_read.specs.Read.{readReply}
+use Rattle.image_save.specs.Save.{saveReply}
 use Rattle.file_usn.specs.FileUsn.{fileReply, tableReply}
 use Rattle.file_regions.specs.Regions.{regionsReply}
 use Rattle.reparse_point.specs.Reparse.{reparseReply}
 use Rattle.journal_post.specs.Post.{postUsn}
 use Rattle.journal_post.specs.Posts.{Journal}
-use Rattle.history.specs.Calls.{Call, create, post, read, delete, finish, statusOf, next}
+use Rattle.history.specs.Calls.{Call, create, post, read, delete, finish, save, load, statusOf, next}
 
 -- all statuses but SUCCESS
 abbrev pub isRefusal : Status → Bool
@@ -33,6 +34,8 @@ isRefusal x = not (eqb (number x) (number Success))
 pub data Control : Type 0 where
   -- volume record, ring, input
   readJournal : Volume → List ℕ → List ℕ → Control
+  -- volume record, ring
+  saveJournal : Volume → List ℕ → Control
   -- volume record, file record, parent, pool of names, links, input
   readFile : Volume → FileRecord → ℕ → List ℕ → List Link → List ℕ → Control
   -- the same with the links as three runs of numbers
@@ -51,6 +54,7 @@ pub data Control : Type 0 where
 -- its reply into so much room, by the definition that its contract cites
 abbrev pub replyOf : Control → ℕ → Reply
 replyOf (readJournal v ring input) room = readReply v ring input room
+replyOf (saveJournal v ring) room = saveReply v ring room
 replyOf (readFile v f parent pool links input) room = fileReply v f parent pool links input room
 replyOf (readFileTable v f parent pool places lengths shorts input) room = tableReply v f parent pool places lengths shorts input room
 replyOf (queryRegions v f input) room = regionsReply v f input room
@@ -68,6 +72,8 @@ usnAfter j (post p) usn = postUsn (j .volume) (j .ring) (p .change) (p .name) us
 usnAfter j (read a) usn = usn
 usnAfter j (delete id) usn = usn
 usnAfter j finish usn = usn
+usnAfter j (save room) usn = usn
+usnAfter j (load s id) usn = usn
 
 -- ---- the promise
 
