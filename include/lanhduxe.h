@@ -6,20 +6,20 @@
  * memcpy and memset, allocates nothing and keeps nothing between calls.
  *
  * Memory. Every buffer is lent for the time of one call, as a pointer and a length; with a length of 0 the pointer may be NULL. The
- * pointers `volume` and `usn` must not be NULL. What a call may write (a post's ring, an output, *volume, *usn) must not overlap
- * anything else that is lent to it, and nobody else may use it meanwhile; nor may anyone change what the call reads. A struct that is
- * passed by value is only read.
+ * pointers `volume` and `usn` must not be NULL. What a call may write (the ring of a post or a load, an output, *volume, *usn) must not
+ * overlap anything else that is lent to it, and nobody else may use it meanwhile; nor may anyone change what the call reads. A struct
+ * that is passed by value is only read.
  *
  * Answers. A status other than USN_SUCCESS is a refusal: it reports 0 bytes and has changed no buffer and no record. With
  * USN_SUCCESS the output holds `count` bytes of reply, and its bytes behind them are as they were. Each call gives the first status
  * that applies, in the order listed with it.
  *
- * The volume record. Only create, delete, finish and post store anything in *volume, and of it only the fields that are named with
- * the call. Where such a call refuses or skips, it stores nothing there, not even what it found.
+ * The volume record. Only create, delete, finish, post and load store anything in *volume, and of it only the fields that are named
+ * with the call. Where such a call refuses or skips, it stores nothing there, not even what it found.
  *
- * The ring. Post and read are lent a ring of `capacity` bytes, in which the byte at position p stands at p modulo the capacity. It is
- * sound if the capacity is right and the lent length equal to it, and from `first` to `last`, at most a capacity apart, there are whole
- * and right records.
+ * The ring. Post, read, save and load are lent a ring of `capacity` bytes, in which the byte at position p stands at p modulo the
+ * capacity. It is sound if the capacity is right and the lent length equal to it, and from `first` to `last`, at most a capacity apart,
+ * there are whole and right records. What a ring holds does not matter to a load.
  *
  * Numbers. Replies and inputs are little-endian, laid out as [MS-FSCC] has them. A number of 64 bits is passed as its bit pattern;
  * where a layout has a signed one (i64), 2^63 and above is negative.
@@ -39,9 +39,10 @@ extern "C" {
 
 /*
  * The version of this interface. It changes with every change of a struct or a call: a program that was compiled with another one
- * must be compiled again. Since version 2 the library is called lanhduxe, and this header lays out numbers and inputs.
+ * must be compiled again. Since version 2 the library is called lanhduxe, and this header lays out numbers and inputs. Since version 3
+ * a journal can be saved to an image and loaded again.
  */
-#define LANHDUXE_VERSION 2
+#define LANHDUXE_VERSION 3
 
 /* ---- Statuses, by the numbers of [MS-ERREF] ---- */
 
@@ -50,6 +51,7 @@ extern "C" {
 #define USN_INVALID_PARAMETER          0xC000000Du
 #define USN_INVALID_DEVICE_REQUEST     0xC0000010u
 #define USN_BUFFER_TOO_SMALL           0xC0000023u
+#define USN_UNKNOWN_REVISION           0xC0000058u
 #define USN_DISK_FULL                  0xC000007Fu
 #define USN_FILE_CORRUPT_ERROR         0xC0000102u
 #define USN_NOT_A_REPARSE_POINT        0xC0000275u
@@ -72,6 +74,7 @@ extern "C" {
 #define USN_READ_ROOM      600u                         /* a read with so many bytes of output has room for any record */
 #define USN_POSITION_LIMIT UINT64_C(0x8000000000000000) /* 2^63, the first number that is no position and no Usn */
 #define USN_LIST_MAX       65536u                       /* bytes of a reply that usn_list_reply lists */
+#define USN_IMAGE_TRAILER  32u                          /* bytes of an image behind its records */
 
 /* ---- Records ---- */
 
@@ -81,7 +84,7 @@ typedef struct usn_volume {
     uint32_t regions;  /* usn_query_file_regions */
     uint32_t reparse;  /* usn_get_reparse_point */
     uint32_t points;   /* reparse points at all */
-    uint32_t journal;  /* usn_post and usn_read_journal */
+    uint32_t journal;  /* usn_post, usn_read_journal, usn_save_journal, usn_load_journal */
     uint32_t state;    /* one of USN_STATE_ */
     uint64_t id;       /* the journal's id, or the last one used */
     uint64_t first;    /* where the oldest kept record begins, a multiple of 8 */
@@ -245,6 +248,43 @@ static inline uint64_t usn_reply_position(const uint8_t *reply)
 {
     return usn_get_number(reply, 8);
 }
+
+/* ---- The journal's image ---- */
+
+/*
+ * An image holds a journal's kept records and its id, so that a server that keeps it in a file has its journal again after a restart. In
+ * form 1 the records stand back to back in version 2, oldest first. Behind them is the trailer, little-endian, of USN_IMAGE_TRAILER bytes:
+ *      0  u32  0, where a record would have its length
+ *      4  u32  the bytes before the trailer
+ *      8  u64  first, where the oldest record begins
+ *     16  u64  the journal's id
+ *     24  u32  the sum of all other 32-bit words of the image, modulo 2^32
+ *     28  u32  the form's number, 1
+ * An empty journal's image is the trailer alone. An image that was cut at any byte is refused, and so is one with a 32-bit word changed.
+ */
+
+/* Room enough for any image of a ring of so many bytes. */
+#define USN_IMAGE_ROOM(capacity) ((capacity) + USN_IMAGE_TRAILER)
+
+/*
+ * Saves the journal: writes its image, of `count` bytes. What is posted later is not in it.
+ * INVALID_DEVICE_REQUEST without support; JOURNAL_DELETE_IN_PROGRESS; JOURNAL_NOT_ACTIVE; FILE_CORRUPT_ERROR for a ring that is not
+ * sound; BUFFER_TOO_SMALL for an output shorter than the image.
+ */
+usn_answer usn_save_journal(usn_volume volume, const uint8_t *ring, size_t ring_size, uint8_t *output, size_t output_size);
+
+/*
+ * Loads an image as a journal with a new id: leaves what its creation at the image's first position and posts of the image's records
+ * would. The records' bytes are written to the ring and no others. Stores state, id, first and last; the `last` that was there does not
+ * matter.
+ * A reader of the saved journal may go on under the new id from a position up to the loaded `last`. One that stands past it has read what
+ * was posted after the save, and must begin anew: these positions are given out again, to other records.
+ * INVALID_DEVICE_REQUEST without support; JOURNAL_DELETE_IN_PROGRESS; INVALID_PARAMETER if active; UNKNOWN_REVISION for
+ * USN_IMAGE_TRAILER bytes or more whose last four are not the number 1; FILE_CORRUPT_ERROR for what is no image, a wrong capacity, or a
+ * ring of another length; INVALID_PARAMETER for an id that is 0, the image's or the last one used; DISK_FULL if the records span more
+ * than the capacity.
+ */
+uint32_t usn_load_journal(usn_volume *volume, uint8_t *ring, size_t ring_size, const uint8_t *image, size_t image_size, uint64_t id);
 
 /* ---- Controls on one file ---- */
 

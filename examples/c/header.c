@@ -72,6 +72,27 @@ static void try_states_and_limits(void)
     TRY(usn_finish(&volume) == USN_SUCCESS && volume.state == USN_STATE_IDLE);
 }
 
+static void try_images(void)
+{
+    static uint8_t ring[USN_CAPACITY_MAX], image[USN_IMAGE_ROOM(sizeof ring)], name[USN_NAME_MAX];
+    usn_volume volume = volume_of(sizeof ring, 0);
+    usn_change change = { 5, 2, 0, 1, 0, 0, 0 };
+    usn_answer saved;
+    uint64_t usn = 0;
+
+    TRY(usn_create(&volume, 7) == USN_SUCCESS);
+    TRY(usn_save_journal(volume, ring, sizeof ring, image, USN_IMAGE_TRAILER - 1).status == USN_BUFFER_TOO_SMALL);
+    TRY(usn_save_journal(volume, ring, sizeof ring, image, USN_IMAGE_TRAILER).count == USN_IMAGE_TRAILER);
+    while (volume.first == 0)
+        TRY(usn_post(&volume, ring, sizeof ring, change, name, sizeof name, &usn) == USN_SUCCESS);
+    saved = usn_save_journal(volume, ring, sizeof ring, image, sizeof image);
+    TRY(saved.status == USN_SUCCESS && saved.count == 110 * 576 + USN_IMAGE_TRAILER);
+    volume = volume_of(sizeof ring, 0);
+    TRY(usn_load_journal(&volume, ring, sizeof ring, image, USN_IMAGE_TRAILER - 1, 8) == USN_FILE_CORRUPT_ERROR);
+    TRY(usn_load_journal(&volume, ring, sizeof ring, image, USN_IMAGE_TRAILER, 8) == USN_UNKNOWN_REVISION);
+    TRY(usn_load_journal(&volume, ring, sizeof ring, image, saved.count, 8) == USN_SUCCESS && volume.state == USN_STATE_ACTIVE);
+}
+
 static void try_listing(void)
 {
     static uint8_t reply[USN_LIST_MAX + 1], text[USN_LIST_ROOM(sizeof reply)];
@@ -84,6 +105,7 @@ int main(void)
 {
     try_functions();
     try_states_and_limits();
+    try_images();
     try_listing();
     return failed;
 }

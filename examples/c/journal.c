@@ -1,6 +1,6 @@
 /*
  * Calls every function of the interface: creates a journal, posts three changes to two files, reads them back in two replies, asks the
- * controls on one of the files, and deletes the journal.
+ * controls on one of the files, saves the journal, deletes it, and loads it again.
  * Build and run: examples/c/run
  */
 #include <inttypes.h>
@@ -9,7 +9,7 @@
 
 #include "lanhduxe.h"
 
-enum { CAPACITY = 4096, ID = 7 };
+enum { CAPACITY = 4096, ID = 7, NEXT_ID = 8 };
 
 static void expect(const char *call, uint32_t status)
 {
@@ -84,14 +84,19 @@ static void ask_file(const usn_volume *volume)
 
 int main(void)
 {
-    static uint8_t ring[CAPACITY];
+    static uint8_t ring[CAPACITY], image[USN_IMAGE_ROOM(CAPACITY)];
     usn_volume volume = { .usn = 1, .regions = 1, .reparse = 1, .points = 1, .journal = 1, .capacity = CAPACITY };
     expect("usn_create", usn_create(&volume, ID));
     post_changes(&volume, ring);
     read_changes(&volume, ring);
     ask_file(&volume);
+    usn_answer saved = usn_save_journal(volume, ring, CAPACITY, image, sizeof image);
+    expect("usn_save_journal", saved.status);
+    printf("saved, %" PRIu64 " bytes\n", saved.count);
     expect("usn_delete", usn_delete(&volume, ID));
     expect("usn_finish", usn_finish(&volume));
     printf("deleted, LastUsn %" PRIu64 "\n", volume.last);
+    expect("usn_load_journal", usn_load_journal(&volume, ring, CAPACITY, image, saved.count, NEXT_ID));
+    printf("loaded with id %" PRIu64 ", first %" PRIu64 ", LastUsn %" PRIu64 "\n", volume.id, volume.first, volume.last);
     return 0;
 }

@@ -208,6 +208,70 @@ fn reads(p: &Pair, mask: u32, version: u16) -> Timed {
     )
 }
 
+fn saves(p: &Pair) -> Timed {
+    let room = p.rings[0].len() + 32;
+    let (mut a, mut b) = (vec![0; room], vec![0; room]);
+    let x = p.library.save_journal(&p.rings[0], &mut a);
+    let y = model::save_journal(&p.model, &p.rings[1], &mut b);
+    assert!((x.status.number(), x.count) == y && a == b && y.0 == model::status::SUCCESS);
+    measure(
+        || {
+            black_box(
+                p.library
+                    .save_journal(black_box(&p.rings[0]), black_box(&mut a)),
+            );
+        },
+        || {
+            black_box(model::save_journal(
+                &p.model,
+                black_box(&p.rings[1]),
+                black_box(&mut b),
+            ));
+        },
+    )
+}
+
+/// Loads of the journal's image, each into a record without a journal.
+fn loads(p: &Pair) -> Timed {
+    let capacity = p.library.capacity;
+    let mut image = vec![0; capacity as usize + 32];
+    let saved = p.library.save_journal(&p.rings[0], &mut image);
+    let image = &image[..saved.count];
+    let mut rings = [vec![0; capacity as usize], vec![0; capacity as usize]];
+    let [a, b] = &mut rings;
+    let idle = lanhduxe::Volume {
+        journal: 1,
+        capacity,
+        ..Default::default()
+    };
+    let same = model::Volume {
+        journal: 1,
+        capacity,
+        ..Default::default()
+    };
+    let (mut v, mut m) = (idle, same);
+    let x = v.load_journal(a, image, ID + 1);
+    let y = model::load_journal(&mut m, b, image, ID + 1);
+    assert!(x.number() == y && a == b && v.last == m.last && y == model::status::SUCCESS);
+    measure(
+        || {
+            let mut v = black_box(idle);
+            black_box(v.load_journal(black_box(a), black_box(image), ID + 1));
+            black_box(v);
+        },
+        || {
+            let mut m = black_box(same);
+            black_box(model::load_journal(
+                &mut m,
+                black_box(b),
+                black_box(image),
+                ID + 1,
+            ));
+            black_box(m);
+        },
+    )
+}
+
 fn walks(p: &Pair, version: u16) -> Timed {
     let mut reply = vec![0; 65_536];
     let x = p
@@ -407,6 +471,16 @@ fn main() {
         "read that selects nothing, names of 510 bytes",
         &reads(&long, CLOSED, 3),
     );
+    for (size, p) in [(2, &short), (510, &long)] {
+        row(
+            &format!("save of a full ring of 64 KiB, names of {size} bytes"),
+            &saves(p),
+        );
+        row(
+            &format!("load of a full ring of 64 KiB, names of {size} bytes"),
+            &loads(p),
+        );
+    }
     for version in [2, 3] {
         row(
             &format!("walk of a 64 KiB reply, names of 2 bytes, V{version}"),
@@ -425,6 +499,14 @@ fn main() {
     heading("read of a full ring in V3, names of 2 bytes, capacity");
     for c in capacities {
         row(&c.to_string(), &reads(&full(c, 2), !0, 3));
+    }
+    heading("save of a full ring, names of 2 bytes, capacity");
+    for c in capacities {
+        row(&c.to_string(), &saves(&full(c, 2)));
+    }
+    heading("load of a full ring, names of 2 bytes, capacity");
+    for c in capacities {
+        row(&c.to_string(), &loads(&full(c, 2)));
     }
     println!(
         "\n30 posts a second on a full ring of 64 KiB take {:.4} % of a processor's time.",

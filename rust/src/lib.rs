@@ -38,6 +38,16 @@
 //!
 //! let walk = walk_reply(&output[..answer.count]).expect("a whole reply");
 //! assert_eq!((walk.position, walk.count), (80, 1));
+//!
+//! // An image of the journal, to be kept in a file, and the journal from it after a restart.
+//! let mut image = [0; 1024 + 32];
+//! let saved = volume.save_journal(&ring, &mut image);
+//! assert_eq!((saved.status, saved.count), (Status::Success, 96));
+//!
+//! let mut ring = vec![0; 1024];
+//! let mut volume = Volume { journal: 1, capacity: 1024, ..Volume::default() };
+//! assert_eq!(volume.load_journal(&mut ring, &image[..saved.count], 8), Status::Success);
+//! assert_eq!((volume.first, volume.last), (0, 80));
 //! ```
 
 #![warn(missing_docs)]
@@ -106,6 +116,21 @@ mod c {
             output: *mut u8,
             output_size: usize,
         ) -> Answer;
+        pub fn usn_save_journal(
+            volume: Volume,
+            ring: *const u8,
+            ring_size: usize,
+            output: *mut u8,
+            output_size: usize,
+        ) -> Answer;
+        pub fn usn_load_journal(
+            volume: *mut Volume,
+            ring: *mut u8,
+            ring_size: usize,
+            image: *const u8,
+            image_size: usize,
+            id: u64,
+        ) -> u32;
         pub fn usn_read_file(
             volume: Volume,
             file: FileRecord,
@@ -225,9 +250,13 @@ pub enum Status {
     InvalidDeviceRequest = 0xC000_0010,
     /// `STATUS_BUFFER_TOO_SMALL`: an input or output buffer is too short.
     BufferTooSmall = 0xC000_0023,
-    /// `STATUS_DISK_FULL`: no position is left for the record.
+    /// `STATUS_UNKNOWN_REVISION`: the image has a form that is not known.
+    UnknownRevision = 0xC000_0058,
+    /// `STATUS_DISK_FULL`: no position is left for the record, or the ring has
+    /// no room for the image's records.
     DiskFull = 0xC000_007F,
-    /// `STATUS_FILE_CORRUPT_ERROR`: a bad file record, volume record or ring.
+    /// `STATUS_FILE_CORRUPT_ERROR`: a bad file record, volume record, ring or
+    /// image.
     FileCorruptError = 0xC000_0102,
     /// `STATUS_NOT_A_REPARSE_POINT`: the file has no reparse tag.
     NotAReparsePoint = 0xC000_0275,
@@ -243,12 +272,13 @@ pub enum Status {
 
 impl Status {
     /// All statuses, by rising number.
-    pub const ALL: [Status; 12] = [
+    pub const ALL: [Status; 13] = [
         Status::Success,
         Status::BufferOverflow,
         Status::InvalidParameter,
         Status::InvalidDeviceRequest,
         Status::BufferTooSmall,
+        Status::UnknownRevision,
         Status::DiskFull,
         Status::FileCorruptError,
         Status::NotAReparsePoint,
@@ -284,6 +314,7 @@ impl fmt::Display for Status {
             Status::InvalidParameter => "STATUS_INVALID_PARAMETER",
             Status::InvalidDeviceRequest => "STATUS_INVALID_DEVICE_REQUEST",
             Status::BufferTooSmall => "STATUS_BUFFER_TOO_SMALL",
+            Status::UnknownRevision => "STATUS_UNKNOWN_REVISION",
             Status::DiskFull => "STATUS_DISK_FULL",
             Status::FileCorruptError => "STATUS_FILE_CORRUPT_ERROR",
             Status::NotAReparsePoint => "STATUS_NOT_A_REPARSE_POINT",
@@ -507,6 +538,71 @@ impl Volume {
             )
         };
         Answer::of(answer, output.len())
+    }
+
+    /// Saves the journal as an image, to be loaded after a restart.
+    ///
+    /// Lent are the ring, which stays as it is, and the output. The image is the
+    /// kept records back to back in version 2, oldest first, and a trailer of 32
+    /// bytes: a zero `u32`, the bytes before the trailer `u32`, `first` `u64`,
+    /// `id` `u64`, the sum of all other 32-bit words `u32` and the form number 1
+    /// `u32`. An output 32 bytes longer than the ring always has room. What is
+    /// posted later is not in the image.
+    ///
+    /// Refusals, in order: [`Status::InvalidDeviceRequest`] without a journal on
+    /// the volume; [`Status::JournalDeleteInProgress`];
+    /// [`Status::JournalNotActive`]; [`Status::FileCorruptError`] as for a post;
+    /// [`Status::BufferTooSmall`] if the output is shorter than the image.
+    #[inline]
+    pub fn save_journal(&self, ring: &[u8], output: &mut [u8]) -> Answer {
+        // SAFETY: as in `read_journal`.
+        let answer = unsafe {
+            c::usn_save_journal(
+                *self,
+                ring.as_ptr(),
+                ring.len(),
+                output.as_mut_ptr(),
+                output.len(),
+            )
+        };
+        Answer::of(answer, output.len())
+    }
+
+    /// Loads an image as a journal with a new id.
+    ///
+    /// Lent are the ring and the image, which stays as it is. A load leaves what
+    /// a creation at the image's first position and posts of the image's records
+    /// would: the state becomes active, `id` the new id, `first` and `last` the
+    /// image's. It writes the records' bytes into the ring and no others. What
+    /// the ring held and the `last` that was there do not matter.
+    ///
+    /// A reader of the saved journal may go on under the new id from a position
+    /// up to the loaded `last`. One that stands past it has read what was posted
+    /// after the save, and must begin anew: these positions are given out again,
+    /// to other records.
+    ///
+    /// Refusals, in order: [`Status::InvalidDeviceRequest`] without a journal on
+    /// the volume; [`Status::JournalDeleteInProgress`];
+    /// [`Status::InvalidParameter`] if active; [`Status::UnknownRevision`] for
+    /// 32 bytes or more whose last four are not the number 1;
+    /// [`Status::FileCorruptError`] for what is no image, a wrong capacity or a
+    /// ring of another length; [`Status::InvalidParameter`] if `id` is 0, the
+    /// image's or the last one used; [`Status::DiskFull`] if the records span
+    /// more than the capacity.
+    #[inline]
+    pub fn load_journal(&mut self, ring: &mut [u8], image: &[u8], id: u64) -> Status {
+        // SAFETY: each pointer and length comes from a live borrow; those of
+        // the record and the ring are exclusive.
+        Status::of(unsafe {
+            c::usn_load_journal(
+                self,
+                ring.as_mut_ptr(),
+                ring.len(),
+                image.as_ptr(),
+                image.len(),
+                id,
+            )
+        })
     }
 
     /// Reads a file's USN data as one record.

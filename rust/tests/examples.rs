@@ -47,6 +47,7 @@ fn the_statuses_have_their_numbers_and_names() {
         (0xC000_000D, "STATUS_INVALID_PARAMETER"),
         (0xC000_0010, "STATUS_INVALID_DEVICE_REQUEST"),
         (0xC000_0023, "STATUS_BUFFER_TOO_SMALL"),
+        (0xC000_0058, "STATUS_UNKNOWN_REVISION"),
         (0xC000_007F, "STATUS_DISK_FULL"),
         (0xC000_0102, "STATUS_FILE_CORRUPT_ERROR"),
         (0xC000_0275, "STATUS_NOT_A_REPARSE_POINT"),
@@ -65,6 +66,8 @@ fn the_statuses_have_their_numbers_and_names() {
 fn the_random_tests_see_every_status() {
     let tests = [
         &expected::JOURNAL[..],
+        &expected::SAVE,
+        &expected::LOAD,
         &expected::FILE,
         &expected::REGIONS,
         &expected::REPARSE,
@@ -355,6 +358,63 @@ fn a_journal_is_deleted_and_created_again() {
     assert_eq!(volume.create(7), Status::InvalidParameter);
     assert_eq!(volume.create(8), Status::Success);
     assert_eq!((volume.first, volume.last, volume.id), (1040, 1040, 8));
+}
+
+/// The image of a journal with id 7 and one record, from position 4,096 on. The
+/// sum is that of the words 64, 2, 41, 5, 4,176, 256, 128, 2 + 60 * 65,536, 97;
+/// 64, 4,096, 7, 1.
+#[rustfmt::skip]
+const IMAGE: [u8; 96] = [
+    64, 0, 0, 0, 2, 0, 0, 0, 41, 0, 0, 0, 0, 0, 0, 0,
+    5, 0, 0, 0, 0, 0, 0, 0, 0x50, 0x10, 0, 0, 0, 0, 0, 0,
+    0, 0, 0, 0, 0, 0, 0, 0, 0, 1, 0, 0, 0, 0, 0, 0,
+    0, 0, 0, 0, 0x80, 0, 0, 0, 2, 0, 60, 0, 0x61, 0, 0, 0,
+    0, 0, 0, 0, 64, 0, 0, 0, 0, 0x10, 0, 0, 0, 0, 0, 0,
+    7, 0, 0, 0, 0, 0, 0, 0, 0xEB, 0x22, 60, 0, 1, 0, 0, 0,
+];
+
+#[test]
+fn a_journal_is_saved_and_loaded() {
+    let mut saved = Volume {
+        last: 4096,
+        ..volume(1024)
+    };
+    let mut ring = vec![0; 1024];
+    assert_eq!(saved.create(7), Status::Success);
+    let change = Change {
+        file: 41,
+        parent: 5,
+        reason: 0x100,
+        ..Change::default()
+    };
+    let status = saved.post(&mut ring, &change, b"a\0", &mut 0);
+    assert_eq!(status, Status::Success);
+
+    let mut output = [0xEE; 100];
+    let short = saved.save_journal(&ring, &mut output[..95]);
+    assert_eq!(short, refused(Status::BufferTooSmall));
+    assert_eq!(output, [0xEE; 100]);
+    assert_eq!(saved.save_journal(&ring, &mut output), success(96));
+    assert_eq!((&output[..96], &output[96..]), (&IMAGE[..], &[0xEE; 4][..]));
+
+    let mut loaded = volume(4096);
+    let mut other = vec![0xEE; 4096];
+    let mut load = |image: &[u8], id| loaded.load_journal(&mut other, image, id);
+    assert_eq!(load(&IMAGE[..95], 8), Status::UnknownRevision);
+    assert_eq!(load(&IMAGE[1..], 8), Status::FileCorruptError);
+    assert_eq!(load(&IMAGE, 7), Status::InvalidParameter);
+    assert_eq!(load(&IMAGE, 8), Status::Success);
+    assert_eq!(load(&IMAGE, 9), Status::InvalidParameter);
+    let expected = Volume {
+        state: 1,
+        id: 8,
+        first: 4096,
+        last: 4176,
+        ..volume(4096)
+    };
+    assert_eq!(loaded, expected);
+    assert_eq!(other[..80], lay_out(3, &change, 4176, b"a\0"));
+    assert_eq!(other[80..], [0xEE; 4016]);
 }
 
 #[test]

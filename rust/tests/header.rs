@@ -10,10 +10,10 @@ const WRAPPER: &str = "rust/src/lib.rs";
 const LIBRARY: &str = "crates/lanhduxe/src/lib.rt";
 
 /// `LANHDUXE_VERSION`, and the number that `fingerprint` makes of the structs and calls of that version.
-const VERSION: (&str, u64) = ("2", 0xEDF0_E460_A95F_B863);
+const VERSION: (&str, u64) = ("3", 0x70D6_9326_4723_645A);
 
 /// The calls of the interface.
-const CALLS: usize = 11;
+const CALLS: usize = 13;
 
 /// A struct that is shared: where the library has it, and its name in the library, in the wrapper and in the header.
 struct Shared {

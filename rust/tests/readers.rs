@@ -1,5 +1,7 @@
 //! Readers of one journal over whole lists of calls: what they are handed, when
 //! they are told that records are gone, and that they reach the journal's end.
+//! Where a list ends with a save and the next one begins with a load, they go on
+//! from where they stand, under the new id.
 //!
 //! Nothing here looks into the ring. A history is kept from the calls' arguments
 //! alone, and the records that readers were handed are compared with the history,
@@ -8,7 +10,7 @@
 mod common;
 
 use common::{check, expected, lay_out, record_length, selects};
-use common::{Counts, Hex, ReadInput, Rng, GUARD, NEGATIVE};
+use common::{Counts, Hex, ReadInput, Rng, GUARD, NEGATIVE, TRAILER};
 use lanhduxe::{Change, Status, Volume};
 
 const TEST: &str = "readers";
@@ -21,7 +23,8 @@ struct Posted {
     name: Vec<u8>,
 }
 
-/// The history of one list, from its creation on.
+/// The history of one list, from its creation on. A load goes on with the one
+/// that was saved.
 struct History {
     live: bool,
     id: u64,
@@ -48,6 +51,28 @@ impl History {
             posted: Vec::new(),
             dropped: 0,
         }
+    }
+
+    /// The history after a load of what this one keeps: of a creation at the
+    /// first kept position and posts of the kept records. What was dropped before
+    /// stays dropped.
+    fn loaded(self, capacity: u64, id: u64) -> History {
+        History {
+            live: true,
+            id,
+            capacity,
+            created: self.first,
+            ..self
+        }
+    }
+
+    /// The image of what is kept.
+    fn image(&self) -> Vec<u8> {
+        let mut body = Vec::new();
+        for record in &self.posted[self.dropped..] {
+            body.extend(lay_out(2, &record.change, record.usn, &record.name));
+        }
+        common::image(&body, self.first, self.id)
     }
 
     /// Notes a post; true if the record counts as posted.
@@ -157,6 +182,16 @@ struct List {
     names: Names,
 }
 
+/// What a list leaves for the next one.
+enum Left {
+    Nothing,
+    /// The volume record, the ring and its lent length, with the journal deleted.
+    Idle(Volume, Vec<u8>, usize),
+    /// An image, what was saved in it, and the readers who go on. Volume record
+    /// and ring are lost.
+    Saved(Vec<u8>, History, Vec<Reader>),
+}
+
 /// Which names a list posts.
 #[derive(Clone, Copy)]
 enum Names {
@@ -170,9 +205,12 @@ struct Run {
     rng: Rng,
     counts: Counts,
     index: u64,
+    readers: u64,
     told: u64,
     brought: u64,
     handed: u64,
+    loads: u64,
+    went_on: u64,
 }
 
 impl Run {
@@ -196,31 +234,79 @@ impl Run {
         (volume, rng.bytes(lent + GUARD), lent)
     }
 
+    /// An id that is not 0 and none of these.
+    fn new_id(&mut self, used: &[u64]) -> u64 {
+        let mut id = self.rng.draw().max(1);
+        while used.contains(&id) {
+            id = id.wrapping_add(1).max(1);
+        }
+        id
+    }
+
     /// Begins a list with a creation that succeeds.
     fn begin(&mut self, mut volume: Volume, ring: Vec<u8>, lent: usize) -> List {
-        let id = match self.rng.draw() {
-            id if id == volume.id => id ^ 1,
-            id => id.max(1),
-        };
+        let id = self.new_id(&[volume.id]);
         let history = History::new(&volume, lent, id);
         let status = volume.create(id);
-        self.counts.add(status);
-        check(status == Status::Success, TEST, self.index, || {
-            format!("create {id} gave {status}: {volume:?}")
-        });
-        self.index += 1;
-        let names = self
-            .rng
-            .pick(&[Names::Mixed, Names::Mixed, Names::Short, Names::Long]);
-        List {
+        self.opened(volume, ring, lent, history, status)
+    }
+
+    /// Begins a list with a load that succeeds, on a fresh volume whose ring has
+    /// room for what was saved. The readers who stood in the saved journal are
+    /// refused under its id and go on under the new one.
+    fn begin_again(&mut self, image: &[u8], saved: History, readers: Vec<Reader>) -> List {
+        let (mut volume, _, _) = self.volume();
+        if self.rng.percent(50) || volume.capacity < saved.end - saved.first {
+            volume.capacity = saved.capacity;
+        }
+        volume.journal = self.rng.yes();
+        volume.id = self.rng.pick(&[0, saved.id, 5]);
+        volume.last = self.rng.long();
+        let lent = volume.capacity as usize;
+        let mut ring = self.rng.bytes(lent + GUARD);
+        let id = self.new_id(&[volume.id, saved.id]);
+        let old = saved.id;
+        let history = saved.loaded(volume.capacity, id);
+        let status = volume.load_journal(&mut ring[..lent], image, id);
+        let mut list = self.opened(volume, ring, lent, history, status);
+        list.readers = readers;
+        for reader in 0..list.readers.len() {
+            let mut input = self.input(&list, reader);
+            input.id = old;
+            self.reader_read(&mut list, reader, &input, 600);
+        }
+        self.loads += 1;
+        self.went_on += list.readers.len() as u64;
+        list
+    }
+
+    /// The list that a creation or a load has begun.
+    fn opened(
+        &mut self,
+        volume: Volume,
+        ring: Vec<u8>,
+        lent: usize,
+        history: History,
+        status: Status,
+    ) -> List {
+        let list = List {
             volume,
             ring,
             lent,
             history,
             readers: Vec::new(),
             retired: Vec::new(),
-            names,
-        }
+            names: self
+                .rng
+                .pick(&[Names::Mixed, Names::Mixed, Names::Short, Names::Long]),
+        };
+        self.counts.add(status);
+        let right = status == Status::Success && self.agrees(&list);
+        check(right, TEST, self.index, || {
+            format!("a list began with {status}: {:?}", list.volume)
+        });
+        self.index += 1;
+        list
     }
 
     /// The volume record agrees with the history, as far as the history goes.
@@ -256,6 +342,70 @@ impl Run {
             format!("create {id} was accepted: {before:?}")
         });
         self.after(list, &before, status, "create");
+    }
+
+    /// A load that has to be refused: another one would begin a new list.
+    fn load(&mut self, list: &mut List) {
+        let mut image = list.history.image();
+        let at = self.rng.below(image.len() as u64) as usize;
+        match self.rng.below(4) {
+            0 => image.truncate(at),
+            1 => image[at] ^= 1 << self.rng.below(8),
+            2 => image.extend([2, 0, 0, 0]),
+            _ => {}
+        }
+        let id = self.rng.pick(&[0, list.history.id]);
+        let (before, ring) = (list.volume, list.ring.clone());
+        let lent = &mut list.ring[..list.lent];
+        let status = list.volume.load_journal(lent, &image, id);
+        let refused = status != Status::Success && list.ring == ring;
+        check(refused, TEST, self.index, || {
+            format!(
+                "load {id} gave {status}: {before:?} image {:?}",
+                Hex(&image)
+            )
+        });
+        self.after(list, &before, status, "load");
+    }
+
+    /// A save: its image holds what the history keeps.
+    fn save(&mut self, list: &List, room: usize) -> Vec<u8> {
+        let before = self.rng.bytes(room + GUARD);
+        let mut output = before.clone();
+        let lent = &list.ring[..list.lent];
+        let answer = list.volume.save_journal(lent, &mut output[..room]);
+        self.counts.add(answer.status);
+        let due = list.history.image();
+        let right = match answer.status {
+            Status::Success => list.history.live && output[..answer.count] == due,
+            Status::BufferTooSmall => list.history.live && room < due.len(),
+            _ => !list.history.live,
+        };
+        let behind = output[answer.count..] == before[answer.count..];
+        check(right && behind, TEST, self.index, || {
+            format!(
+                "save gave {answer:?}\nbefore {:?} (lent {room})\nafter {:?}\ndue {:?}\n{:?}",
+                Hex(&before),
+                Hex(&output),
+                Hex(&due),
+                list.volume
+            )
+        });
+        self.index += 1;
+        output.truncate(answer.count);
+        output
+    }
+
+    /// A save with an output around the image's length.
+    fn some_save(&mut self, list: &List) {
+        let length = list.history.image().len();
+        let room = match self.rng.below(4) {
+            0 => self.rng.below(length as u64) as usize,
+            1 => length - 1,
+            2 => length,
+            _ => list.lent + TRAILER,
+        };
+        self.save(list, room);
     }
 
     fn delete(&mut self, list: &mut List, right: bool) {
@@ -475,12 +625,14 @@ impl Run {
 
     /// A call that posts nothing and leaves the journal alive.
     fn idle_call(&mut self, list: &mut List, reader: usize) {
-        match self.rng.below(6) {
+        match self.rng.below(8) {
             0 => self.create(list),
             1 => self.delete(list, false),
             2 => self.finish(list),
             3 => self.post(list, false),
             4 => self.other_read(list),
+            5 => self.load(list),
+            6 => self.some_save(list),
             _ => self.come_back(list, reader),
         }
     }
@@ -539,7 +691,9 @@ impl Run {
             2..=3 => self.delete(list, false),
             4 if may_end => self.delete(list, true),
             5..=6 => self.finish(list),
-            7..=16 => self.other_read(list),
+            7..=12 => self.other_read(list),
+            13..=14 => self.load(list),
+            15..=16 => self.some_save(list),
             17..=24 if readers < 6 => self.new_reader(list),
             25..=26 if readers > 0 => {
                 let reader = self.rng.below(readers) as usize;
@@ -558,8 +712,35 @@ impl Run {
         }
     }
 
-    /// After a list: each reader has been handed what is due.
+    /// Ends a list, and gives what the next one begins with.
+    fn leave(&mut self, mut list: List) -> Left {
+        match self.rng.below(4) {
+            0..=1 => {
+                if list.volume.state == 1 {
+                    self.delete(&mut list, true);
+                }
+                if list.volume.state == 2 {
+                    self.finish(&mut list);
+                }
+                self.end(&list);
+                Left::Idle(list.volume, list.ring, list.lent)
+            }
+            2 if list.history.live => {
+                let image = self.save(&list, list.lent + TRAILER);
+                let readers = std::mem::take(&mut list.readers);
+                self.end(&list);
+                Left::Saved(image, list.history, readers)
+            }
+            _ => {
+                self.end(&list);
+                Left::Nothing
+            }
+        }
+    }
+
+    /// After a list: each reader who does not go on has been handed what is due.
     fn end(&mut self, list: &List) {
+        self.readers += (list.readers.len() + list.retired.len()) as u64;
         for reader in list.readers.iter().chain(&list.retired) {
             check(
                 reader.handed_what_is_due(&list.history),
@@ -598,19 +779,25 @@ fn readers_are_handed_what_was_posted() {
         rng: Rng::new(TEST),
         counts: Counts::new(TEST),
         index: 0,
+        readers: 0,
         told: 0,
         brought: 0,
         handed: 0,
+        loads: 0,
+        went_on: 0,
     };
     let mut lists = 0;
-    let mut readers = 0;
-    let mut next = None;
-    while run.index < CALLS {
-        let (volume, ring, lent) = match next.take() {
-            Some(left) => left,
-            None => run.volume(),
+    let mut left = Left::Nothing;
+    // The readers who go on are held to the promise after their last list.
+    while run.index < CALLS || matches!(left, Left::Saved(..)) {
+        let mut list = match left {
+            Left::Nothing => {
+                let (volume, ring, lent) = run.volume();
+                run.begin(volume, ring, lent)
+            }
+            Left::Idle(volume, ring, lent) => run.begin(volume, ring, lent),
+            Left::Saved(image, saved, readers) => run.begin_again(&image, saved, readers),
         };
-        let mut list = run.begin(volume, ring, lent);
         let may_end = run.rng.percent(30);
         let calls = run.rng.between(10, 300) + list.volume.capacity / 40;
         for _ in 0..calls {
@@ -619,26 +806,17 @@ fn readers_are_handed_what_was_posted() {
         for reader in 0..list.readers.len() {
             run.bring_to_the_end(&mut list, reader);
         }
-        // Half of the time the next list goes on with the same volume and ring.
-        let go_on = run.rng.percent(50);
-        if go_on && list.volume.state == 1 {
-            run.delete(&mut list, true);
-        }
-        if go_on && list.volume.state == 2 {
-            run.finish(&mut list);
-        }
-        run.end(&list);
-        readers += list.readers.len() + list.retired.len();
+        left = run.leave(list);
         lists += 1;
-        if go_on {
-            next = Some((list.volume, list.ring, list.lent));
-        }
     }
     println!(
-        "{TEST}: {lists} lists, {readers} readers, {} records handed out, {} times brought to the \
-         end, {} times told that records are gone",
-        run.handed, run.brought, run.told
+        "{TEST}: {lists} lists, {} of them begun with a load; {} readers, {} of them gone on after \
+         a load; {} records handed out, {} times brought to the end, {} times told that records \
+         are gone",
+        run.loads, run.readers, run.went_on, run.handed, run.brought, run.told
     );
     assert!(run.handed > 50_000 && run.brought > 1000 && run.told > 1000);
-    run.counts.finish(&expected::JOURNAL, 200_000);
+    assert!(run.loads > 50 && run.went_on > 100);
+    let expected = [&expected::JOURNAL[..], &[Status::UnknownRevision]].concat();
+    run.counts.finish(&expected, 200_000);
 }

@@ -3,8 +3,8 @@
 
 mod common;
 
-use common::{check, expected, lay_out, record_length, Counts, Hex, Lent, Rng};
-use lanhduxe::{list_reply, read_record, walk_reply, Change, Record, Status};
+use common::{change_of, check, expected, lay_out, record_length, Counts, Hex, Lent, Rng};
+use lanhduxe::{list_reply, read_record, walk_reply, Record, Status};
 
 const CALLS: u64 = 100_000;
 
@@ -191,17 +191,9 @@ fn same_record(library: &Option<Record>, model: &Option<model::Record>) -> bool 
 
 /// The bytes of a record that was read, laid out again from its fields.
 fn again(record: &Record, bytes: &[u8]) -> Vec<u8> {
-    let change = Change {
-        file: record.file,
-        parent: record.parent,
-        time: record.time,
-        reason: record.reason,
-        source: record.source,
-        security: record.security,
-        attributes: record.attributes,
-    };
     let version = record.version as u16;
-    lay_out(version, &change, record.usn, &bytes[record.name.clone()])
+    let name = &bytes[record.name.clone()];
+    lay_out(version, &change_of(record), record.usn, name)
 }
 
 #[test]

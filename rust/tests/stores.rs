@@ -6,18 +6,20 @@
 //! read-only, and the calls are made in a child process, which such a store
 //! kills. The record is cut at multiples of 8, as its alignment wants: a store
 //! of the state that takes the flag beside it along is not seen. The ring and
-//! the file's Usn are read-only too where a post refuses or skips.
+//! the file's Usn are read-only too where a post refuses or skips, and so is the
+//! ring where a load refuses.
 
 mod common;
 
-use common::{check, model_change, model_volume, Counts, Rng, NEGATIVE};
+use common::{check, expected, image, lay_out, model_change, model_volume};
+use common::{Counts, Rng, NEGATIVE};
 use core::ffi::c_void;
 use lanhduxe::Status::{self, *};
 use lanhduxe::{Change, Volume};
 use std::mem::size_of;
 use std::ptr;
 
-/// How often each of the four is called.
+/// How often each of the five is called.
 const CALLS: u64 = 25_000;
 
 // The library's calls as C has them: a record on a read-only page may not be
@@ -34,6 +36,14 @@ extern "C" {
         name: *const u8,
         name_size: usize,
         usn: *mut u64,
+    ) -> u32;
+    fn usn_load_journal(
+        volume: *mut Volume,
+        ring: *mut u8,
+        ring_size: usize,
+        image: *const u8,
+        image_size: usize,
+        id: u64,
     ) -> u32;
 }
 
@@ -98,6 +108,7 @@ enum Call {
     Delete(u64),
     Finish,
     Post(Change, usize),
+    Load(&'static [u8], u64),
 }
 
 impl Call {
@@ -107,6 +118,7 @@ impl Call {
             Call::Create(_) => (16, 40),                // state, id, first
             Call::Delete(_) | Call::Finish => (16, 24), // state
             Call::Post(..) => (32, 48),                 // first, last
+            Call::Load(..) => (16, 48),                 // state, id, first, last
         }
     }
 
@@ -122,6 +134,7 @@ impl Call {
                 let name = &NAME[..*name];
                 model::post(&mut after, &mut ring, &model_change(change), name, &mut 0)
             }
+            Call::Load(image, id) => model::load_journal(&mut after, &mut ring, image, *id),
         };
         (status, after)
     }
@@ -137,6 +150,9 @@ impl Call {
             Call::Finish => usn_finish(volume),
             Call::Post(change, name) => {
                 usn_post(volume, ring, RING, *change, NAME.as_ptr(), *name, usn)
+            }
+            Call::Load(image, id) => {
+                usn_load_journal(volume, ring, RING, image.as_ptr(), image.len(), *id)
             }
         }
     }
@@ -334,5 +350,39 @@ fn post_stores_first_and_last_or_nothing() {
     try_calls("stores of post", &expected, |rng| {
         let name = rng.pick(&[0, 1, 2, 2, 2, 4, 100, 510, 511, 512]);
         Call::Post(common::change(rng), name)
+    });
+}
+
+/// Images to load: one that has room, an empty one, one that spans too much, one
+/// of another form, and two that are none. They are never given back.
+fn images() -> [&'static [u8]; 6] {
+    let change = Change {
+        reason: 1,
+        ..Change::default()
+    };
+    let body = |count: u64| -> Vec<u8> {
+        (1..=count)
+            .flat_map(|number| lay_out(2, &change, 80 * number, b"a\0"))
+            .collect()
+    };
+    let right = image(&body(12), 0, 5);
+    let mut other = right.clone();
+    other[right.len() - 4] = 2;
+    let mut changed = right.clone();
+    changed[8] ^= 1;
+    let short = right[..31].to_vec();
+    let long = image(&body(13), 0, 5);
+    [right, image(&[], 1 << 40, 5), long, other, changed, short].map(|image| &*image.leak())
+}
+
+#[test]
+fn load_stores_state_id_first_and_last_or_nothing() {
+    let images = images();
+    try_calls("stores of load", &expected::LOAD, |rng| {
+        let image = match rng.below(2) {
+            0 => images[0],
+            _ => rng.pick(&images),
+        };
+        Call::Load(image, rng.pick(&[0, 5, 7, 8, 9, 10]))
     });
 }

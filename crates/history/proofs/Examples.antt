@@ -1,19 +1,22 @@
 -- The examples of the journal, and the promise to readers at one list of calls.
 -- Assumes nothing.
 use mathlib.Core.Path.{_≡_, refl, ap, ap₂, _∙_}
-use mathlib.Core.Logic.{inr}
+use mathlib.Core.Logic.{inl, inr}
 use mathlib.Core.Bool.{true}
 use mathlib.Core.List.{List, [], _∷_, _++_, map, List·Memᴰ, List·Memᴰ·head, List·Memᴰ·tail, List·Memᴰ·not-nil}
-use mathlib.Core.Option.{none}
+use mathlib.Core.Option.{Option, none, some}
 use Prim.Native.Nat.{ℕ, zero, suc}
 use native.Mathlib.Omega.{arith}
 use lib.ListN.{replicate}
-use Rattle.le.specs.Numbers.{le, unle, numberAt, encode}
+use Rattle.le.specs.Numbers.{le, unle, numberAt, encode, decode, total}
+use Rattle.le.specs.Bytes.{begins}
 use Rattle.status.specs.declared.Status.the-variants.{Success, InvalidParameter, BufferTooSmall, JournalEntryDeleted}
 use Rattle.status.specs.Reply.{Reply, refuse, give, answer}
 use Rattle.volume.specs.State.{goodCapacity, goodPosition}
 use Rattle.usn_record.specs.Layout.{layout, goodName, Record}
-use Rattle.records.specs.Records.{joined}
+use Rattle.record_reader.specs.Read.{accepted, parseAs, parse}
+use Rattle.records.specs.Records.{recordsIn, records, joined}
+use Rattle.journal.specs.Kept.{keeps, chained}
 use Rattle.journal.specs.Boundary.{recordsAfter}
 use Rattle.journal_post.specs.declared.Change.{Change}
 use Rattle.journal_post.specs.Post.{postedName, recordOf}
@@ -24,8 +27,11 @@ use Rattle.kept_writer.specs.Kept.{fits}
 use Rattle.journal_page.specs.Page.{pageOf, pageReply}
 use Rattle.journal_read.specs.Read.{isDeleted, origin, deletedCheck, readAnswer}
 use Rattle.journal_post.specs.Posts.{Journal, Posting}
-use Rattle.history.specs.Calls.{Read, create, post, read, replyTo, statusOf, next, runs, Widths, AllTyped}
-use Rattle.history.specs.Log.{History, posted, opened, isPosted, shed, added, notePost, notes}
+use Rattle.image.specs.Image.{Image, words, wordSum, goodTrailer, allOf, lastFrom, fitsRing, readImage}
+use Rattle.image.proofs.Examples.{oneImage, oneBytes, one-read, one-bytes}
+use Rattle.image_load.specs.Load.{postingOf, formCheck, fitCheck, loadCheck}
+use Rattle.history.specs.Calls.{Read, create, post, read, load, loadEffect, replyTo, statusOf, next, runs, Widths, AllTyped}
+use Rattle.history.specs.Log.{History, posted, opened, isPosted, shed, added, notePost, notePosts, notes, openedBy, opening}
 use Rattle.history.specs.Reading.{fresh, mine, follow}
 use Rattle.history.specs.Demand.{NoCreation, above, wellFormed, ReaderPromise}
 use Rattle.history.proofs.Effects.{clash}
@@ -190,3 +196,30 @@ reaches-end =
 pub told-deleted : statusOf (journalAfter 14) (read (asks 80 600)) ≡ JournalEntryDeleted
 unfolding opened isPosted shed added notePost postedName goodName le unle numberAt argumentCheck wellFormed
 told-deleted = reader 14 (List·Memᴰ·head refl) .deleted (asks 80 600) (refl, (refl, refl)) refl .1 (recordOf change name 160, List·Memᴰ·tail (List·Memᴰ·head refl), omega arith)
+
+-- ---- a journal that is loaded: the image of one record, from position 80 to 160, under the new id 8
+
+loaded-right : statusOf disk (load oneBytes 8) ≡ Success
+unfolding loadCheck formCheck fitCheck goodCapacity goodPosition readImage goodTrailer wordSum words decode unle numberAt total records recordsIn parse parseAs accepted goodName layout encode le begins allOf lastFrom fitsRing chained keeps
+loaded-right = refl
+
+loadedHistory : History
+loadedHistory = notePosts (opened (disk .volume) 1024 80 8) (map postingOf (oneImage .records))
+
+loaded-opens : opening (disk .volume) 1024 (load oneBytes 8) ≡ some loadedHistory
+unfolding loadedHistory
+loaded-opens = ap (λ (o : Option Image). openedBy (disk .volume) 1024 (loadEffect 8 o)) one-read
+
+-- a reader of the saved journal that had come to position 80 goes on there, and one read brings it to the end
+abbrev returns : Read
+returns = record { input = le 8 80 ++ (le 4 0xFFFFFFFF ++ (le 4 0 ++ (le 8 0 ++ (le 8 0 ++ le 8 8)))); room = 600 }
+
+loaded-reader : ReaderPromise (runs (next disk (load oneBytes 8)) []) (notes loadedHistory []) (fresh 80 all)
+unfolding loadedHistory notePost isPosted opened shed added postedName goodName
+loaded-reader =
+    demand3 disk (load oneBytes 8) loadedHistory loaded-right loaded-opens [] [] 80 all one-bytes tt tt (inl refl) (λ z. omega arith) tt
+
+pub loaded-reaches-end : follow (next disk (load oneBytes 8)) (fresh 80 all) (mine returns ∷ []) .position ≡ 160
+unfolding loadedHistory opened isPosted shed added notePost postedName goodName le unle numberAt argumentCheck wellFormed wanted above
+loaded-reaches-end =
+    loaded-reader .progress (λ d. List·Memᴰ·not-nil (d .1)) (mine returns ∷ []) (tt, tt) (λ q. clash cc, tt) ((refl, (refl, refl)), tt) refl (omega arith)

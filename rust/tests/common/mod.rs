@@ -3,7 +3,7 @@
 
 #![allow(dead_code)]
 
-use lanhduxe::{Change, FileRecord, Link, Status, Volume};
+use lanhduxe::{Change, FileRecord, Link, Record, Status, Volume};
 use std::fmt;
 
 /// 2^63, the first pattern that is negative.
@@ -123,14 +123,14 @@ pub fn seed() -> u64 {
 /// How often each status came.
 pub struct Counts {
     test: &'static str,
-    counts: [u64; 12],
+    counts: [u64; Status::ALL.len()],
 }
 
 impl Counts {
     pub fn new(test: &'static str) -> Counts {
         Counts {
             test,
-            counts: [0; 12],
+            counts: [0; Status::ALL.len()],
         }
     }
 
@@ -176,6 +176,23 @@ pub mod expected {
         JournalDeleteInProgress,
         JournalNotActive,
         JournalEntryDeleted,
+    ];
+    pub const SAVE: [Status; 6] = [
+        Success,
+        InvalidDeviceRequest,
+        BufferTooSmall,
+        FileCorruptError,
+        JournalDeleteInProgress,
+        JournalNotActive,
+    ];
+    pub const LOAD: [Status; 7] = [
+        Success,
+        InvalidParameter,
+        InvalidDeviceRequest,
+        UnknownRevision,
+        DiskFull,
+        FileCorruptError,
+        JournalDeleteInProgress,
     ];
     pub const FILE: [Status; 5] = [
         Success,
@@ -329,6 +346,19 @@ pub fn model_links(links: &[Link]) -> Vec<model::Link> {
         .collect()
 }
 
+/// What a record says of a change.
+pub fn change_of(record: &Record) -> Change {
+    Change {
+        file: record.file,
+        parent: record.parent,
+        time: record.time,
+        reason: record.reason,
+        source: record.source,
+        security: record.security,
+        attributes: record.attributes,
+    }
+}
+
 /// A record's length in a version, for a name of so many bytes.
 pub fn record_length(version: u16, name: usize) -> usize {
     let fixed = if version == 2 { 60 } else { 76 };
@@ -365,6 +395,35 @@ pub fn lay_out(version: u16, change: &Change, usn: u64, name: &[u8]) -> Vec<u8> 
     bytes.extend(name);
     bytes.resize(length, 0);
     bytes
+}
+
+/// Bytes of an image behind its records.
+pub const TRAILER: usize = 32;
+
+/// An image's bytes: the records', and the trailer of form 1.
+pub fn image(body: &[u8], first: u64, id: u64) -> Vec<u8> {
+    let mut bytes = body.to_vec();
+    bytes.extend([0; 4]);
+    bytes.extend((body.len() as u32).to_le_bytes());
+    bytes.extend(first.to_le_bytes());
+    bytes.extend(id.to_le_bytes());
+    bytes.extend([0; 4]);
+    bytes.extend(1u32.to_le_bytes());
+    seal(&mut bytes);
+    bytes
+}
+
+/// Puts the sum of an image right, where it has room for a trailer.
+pub fn seal(image: &mut [u8]) {
+    let Some(own) = image.len().checked_sub(8) else {
+        return;
+    };
+    image[own..own + 4].fill(0);
+    let mut sum = 0u32;
+    for word in image.chunks_exact(4) {
+        sum = sum.wrapping_add(u32::from_le_bytes([word[0], word[1], word[2], word[3]]));
+    }
+    image[own..own + 4].copy_from_slice(&sum.to_le_bytes());
 }
 
 /// The input of a journal read; a version pair is there from 48 bytes on.
