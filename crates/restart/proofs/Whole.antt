@@ -1,11 +1,11 @@
 -- The promise of a restart.
 -- Assumes nothing.
-use mathlib.Core.Path.{_≡_, refl, sym, ap, ap₂, _∙_, subst}
+use mathlib.Core.Path.{_≡_, refl, sym, ap, ap₂, _∙_, subst, subst₂}
 use mathlib.Core.Logic.{inl, inr}
-use mathlib.Core.Bool.{Bool, true, false, not, _&&_, _||_}
+use mathlib.Core.Bool.{true, not}
 use mathlib.Core.Option.{Option, none, some}
 use mathlib.Core.List.{List}
-use Prim.Native.Nat.{ℕ, _+_, _-_, _*_, _^_, _≤_, _<_}
+use Prim.Native.Nat.{ℕ, _+_, _*_, _<_}
 use native.Mathlib.Omega.{arith}
 use lib.Dec.{leb}
 use lib.ListN.{length, take, drop}
@@ -14,25 +14,24 @@ use Rattle.le.specs.Bytes.{Bytes}
 use Rattle.le.proofs.Runs.{and-left}
 use Rattle.status.specs.declared.Status.{Status}
 use Rattle.status.specs.declared.Status.the-variants.{Success, BufferTooSmall}
-use Rattle.status.specs.Check.{unless, else}
-use Rattle.status.specs.Reply.{Reply, refuse, give, guard}
-use Rattle.status.proofs.Checking.{else-right, unless-true}
+use Rattle.status.specs.Check.{unless}
+use Rattle.status.specs.Reply.{Reply, give, guard}
+use Rattle.status.proofs.Checking.{else-none, else-right, unless-true}
 use Rattle.volume.specs.declared.Volume.{Volume}
 use Rattle.volume.specs.declared.Outcome.{Outcome}
 use Rattle.volume.specs.State.{supported, isActive, isDeleting, activeCheck, goodCapacity}
 use Rattle.volume.specs.Calls.{performed}
-use Rattle.usn_record.specs.declared.Version.{Version}
 use Rattle.usn_record.specs.declared.Version.the-variants.{V2}
 use Rattle.journal.specs.Kept.{goodMarks, sound, kept}
 use Rattle.journal.proofs.Boundaries.{sound-facts, marks-facts}
 use Rattle.journal_post.specs.Posts.{Journal}
-use Rattle.journal_post.proofs.Keeping.{keeping-kept}
+use Rattle.journal_post.proofs.Keeping.{Keeping, keeping-kept}
 use Rattle.image.specs.Image.{Image, imageOf, lastFrom}
 use Rattle.image.proofs.RoundTrip.{Storable}
 use Rattle.image.proofs.Cut as cutting
 use Rattle.image.proofs.OneWord.{one-word}
 use Rattle.image.proofs.Saving.{kept-storable, kept-end, saved-read}
-use Rattle.image_save.specs.Save.{saveCheck, content, imageReply, saveAs, saveReply}
+use Rattle.image_save.specs.Save.{saveCheck, content, imageReply, saveAs}
 use Rattle.image_load.specs.Load.{stored, loadCheck, restored, settled, loadOutcome, loadRing}
 use Rattle.image_load.proofs.Restoring.{Passed, load-succeeds, load-none, passed-check, restored-put, restored-keeps}
 use Rattle.image_load.specs.Steps.{loadedVolume, marksOf}
@@ -61,20 +60,32 @@ guarded (some x) r s e = clash cc
 given : (s t : List ℕ) → give Success s ≡ give Success t → s ≡ t
 given s t e = cc
 
--- what saving has written is the image of a sound ring
-saved-image : (v : Volume) (ring s : List ℕ) → SavedAs v ring s → (sound v ring ≡ true) × (s ≡ imageOf V2 (content v ring))
+-- what saving has written is the image of an active journal with a sound ring
+pub record Saved (v : Volume) (ring s : List ℕ) : Type 0 where
+  pub on : supported (v .journal) ≡ true
+  pub active : isActive v ≡ true
+  pub whole : sound v ring ≡ true
+  pub image : s ≡ imageOf V2 (content v ring)
+
+pub saved-image : (v : Volume) (ring s : List ℕ) → SavedAs v ring s → Saved v ring s
 unfolding saveAs saveCheck imageReply
 saved-image v ring s (room, e) =
     let image : List ℕ = imageOf V2 (content v ring) in
     let a = guarded (saveCheck v ring) (imageReply image room) s e in
     let b = guarded (unless (leb (length image) room) BufferTooSmall) (give Success image) s (a .1) in
-    let c = else-right (activeCheck v) _ (else-right (unless (supported (v .journal)) _) _ (a .0)) in
-    (unless-true (sound v ring) _ c, sym (given image s (b .1)))
+    let c = else-none (unless (supported (v .journal)) _) _ (a .0) in
+    let d = else-none (activeCheck v) _ (c .1) in
+    record {
+      on = unless-true (supported (v .journal)) _ (c .0);
+      active = unless-true (isActive v) _ (else-right (unless (not (isDeleting v)) _) _ (d .0));
+      whole = unless-true (sound v ring) _ (d .1);
+      image = sym (given image s (b .1));
+    }
 
-saved-stored : (v : Volume) (ring s : List ℕ) → TypedJournal v ring → SavedAs v ring s → stored s ≡ some (content v ring)
+pub saved-stored : (v : Volume) (ring s : List ℕ) → TypedJournal v ring → SavedAs v ring s → stored s ≡ some (content v ring)
 saved-stored v ring s t w =
     let k = saved-image v ring s w in
-    ap stored (k .1) ∙ saved-read v ring (t .0) (k .0) V2 (v .id) (t .1)
+    ap stored (k .image) ∙ saved-read v ring (t .0) (k .whole) V2 (v .id) (t .1)
 
 image-stored : (s : List ℕ) → IsImage s → (i : Image) × (stored s ≡ some i)
 image-stored s (inl (v, ring, id, e)) = loads-stored v ring s id e
@@ -99,12 +110,12 @@ word-never s t k b c e d =
 
 -- ---- there again
 
-module _ (v : Volume) (ring s : List ℕ) (t : TypedJournal v ring) (a : SavedAs v ring s) (w : Volume) (other : List ℕ) (id : ℕ) (k : Ready v w other id) where
+module _ (v : Volume) (ring s : List ℕ) (t : TypedJournal v ring) (a : SavedAs v ring s) (w : Volume) (other : List ℕ) (id : ℕ) where
   abbrev i : Image
   i = content v ring
 
   whole : sound v ring ≡ true
-  whole = saved-image v ring s a .0
+  whole = saved-image v ring s a .whole
 
   held : stored s ≡ some i
   held = saved-stored v ring s t a
@@ -112,10 +123,48 @@ module _ (v : Volume) (ring s : List ℕ) (t : TypedJournal v ring) (a : SavedAs
   end : lastFrom (v .first) (kept v ring) ≡ v .last
   end = kept-end v ring (t .0) whole
 
-  -- nothing refuses it
-  passed : Passed w (length other) id i
+  abbrev before : Journal
+  before = record { volume = w; ring = other }
+
+  -- where nothing refuses it
+  module _ (p : Passed w (length other) id i) where
+    check : loadCheck w (length other) s id ≡ none
+    check = passed-check w (length other) s id i held p
+
+    outcome-is : loadOutcome w other s id ≡ record { status = Success; volume = restored before id (some i) .volume }
+    outcome-is = ap₂ (λ (c : Option Status) (o : Option Image). performed c w (restored before id o .volume)) check held
+
+    ring-is : loadRing w other s id ≡ restored before id (some i) .ring
+    ring-is = ap₂ (λ (c : Option Status) (o : Option Image). settled c other (restored before id o .ring)) check held
+
+    storable : Storable i
+    storable = kept-storable v ring (t .0) whole (v .id) (t .1)
+
+    pub volume-is : loadOutcome w other s id .volume ≡ loadedVolume w id (marksOf i)
+    volume-is = ap (λ (o : Outcome). o .volume) outcome-is ∙ ap (λ (j : Journal). j .volume) (restored-put w other id i storable p)
+
+    -- the ring keeps its records
+    pub loaded-keeps : Keeping (record { volume = loadOutcome w other s id .volume; ring = loadRing w other s id }) (kept v ring)
+    loaded-keeps =
+        subst₂ (λ (o : Outcome) (l : List ℕ). Keeping (record { volume = o .volume; ring = l }) (kept v ring)) (sym outcome-is) (sym ring-is)
+        (restored-keeps w other id i storable p)
+
+    -- and so it is there again
+    pub loaded-again : Again v ring id (loadOutcome w other s id) (loadRing w other s id)
+    loaded-again =
+        record {
+          status = ap (λ (o : Outcome). o .status) outcome-is;
+          active = ap (λ (x : Volume). isActive x) volume-is;
+          id = ap (λ (x : Volume). x .id) volume-is;
+          first = ap (λ (x : Volume). x .first) volume-is;
+          last = ap (λ (x : Volume). x .last) volume-is ∙ end;
+          records = keeping-kept _ (kept v ring) loaded-keeps;
+        }
+
+  -- nothing does in a volume that is ready
+  passed : Ready v w other id → Passed w (length other) id i
   unfolding goodMarks
-  passed =
+  passed k =
       let m : goodMarks v (length ring) ≡ true = sound-facts v ring whole .0 in
       let f = marks-facts v (length ring) m in
       record {
@@ -128,37 +177,8 @@ module _ (v : Volume) (ring s : List ℕ) (t : TypedJournal v ring) (a : SavedAs
         room = omega (arith, end, k .capacity, f .0, f .8);
       }
 
-  check : loadCheck w (length other) s id ≡ none
-  check = passed-check w (length other) s id i held passed
-
-  abbrev before : Journal
-  before = record { volume = w; ring = other }
-
-  outcome-is : loadOutcome w other s id ≡ record { status = Success; volume = restored before id (some i) .volume }
-  outcome-is = ap₂ (λ (c : Option Status) (o : Option Image). performed c w (restored before id o .volume)) check held
-
-  ring-is : loadRing w other s id ≡ restored before id (some i) .ring
-  ring-is = ap₂ (λ (c : Option Status) (o : Option Image). settled c other (restored before id o .ring)) check held
-
-  storable : Storable i
-  storable = kept-storable v ring (t .0) whole (v .id) (t .1)
-
-  volume-is : loadOutcome w other s id .volume ≡ loadedVolume w id (marksOf i)
-  volume-is = ap (λ (o : Outcome). o .volume) outcome-is ∙ ap (λ (j : Journal). j .volume) (restored-put w other id i storable passed)
-
-  -- and so it is there again
-  again : Again v ring id (loadOutcome w other s id) (loadRing w other s id)
-  again =
-      record {
-        status = ap (λ (o : Outcome). o .status) outcome-is;
-        active = ap (λ (x : Volume). isActive x) volume-is;
-        id = ap (λ (x : Volume). x .id) volume-is;
-        first = ap (λ (x : Volume). x .first) volume-is;
-        last = ap (λ (x : Volume). x .last) volume-is ∙ end;
-        records =
-            ap₂ kept (ap (λ (o : Outcome). o .volume) outcome-is) ring-is
-            ∙ keeping-kept (restored before id (some i)) (kept v ring) (restored-keeps w other id i storable passed);
-      }
+  again : Ready v w other id → Again v ring id (loadOutcome w other s id) (loadRing w other s id)
+  again k = loaded-again (passed k)
 
 pub restart : Restart
 restart = record { cut = cut-never; word = word-never; again = again }

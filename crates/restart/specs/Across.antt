@@ -20,6 +20,8 @@ pub record GoesOn (g n : History) : Type 0 where
   pub start : (p : ℕ) → Startable g p → (DroppedAbove g p → ⊥) → Startable n p
   -- and the records behind that position are the same
   pub behind : (p : ℕ) → (DroppedAbove g p → ⊥) → above p (posted n) ≡ above p (posted g)
+  -- what is posted next follows where it would have
+  pub end : n .end ≡ g .end
 
 -- Any creation that succeeds, any list of calls after it, a save, and a load of what it wrote that succeeds, wherever that is.
 abbrev pub Across : Type 0

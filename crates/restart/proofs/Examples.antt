@@ -1,0 +1,197 @@
+-- A journal of one record that is saved and loaded again, and the checks of a load: one table and one statement.
+-- Assumes nothing.
+use mathlib.Core.Path.{_≡_, refl, ap, subst}
+use mathlib.Core.Logic.{inr}
+use mathlib.Core.List.{List, [], _∷_, _++_, map}
+use mathlib.Core.Option.{Option, none, some}
+use Prim.Native.Nat.{ℕ}
+use native.Mathlib.Omega.{arith}
+use lib.Dec.{lit<}
+use lib.ListN.{take, getD, set, replicate}
+use Rattle.le.specs.Numbers.{le, unle, numberAt, encode, decode, total}
+use Rattle.le.specs.Bytes.{begins}
+use Rattle.status.specs.declared.Status.{Status}
+use Rattle.status.specs.declared.Status.the-variants.{Success, InvalidParameter, InvalidDeviceRequest, UnknownRevision, DiskFull, FileCorruptError, JournalDeleteInProgress}
+use Rattle.status.specs.Reply.{give}
+use Rattle.volume.specs.declared.Volume.{Volume}
+use Rattle.volume.specs.State.{goodCapacity, goodPosition}
+use Rattle.usn_record.specs.Layout.{layout, goodName}
+use Rattle.record_reader.specs.Read.{accepted, parseAs, parse}
+use Rattle.records.specs.Records.{recordsIn, records, joined}
+use Rattle.ring.specs.Ring.{rotated, placed}
+use Rattle.journal.specs.Kept.{keptBytes, keeps, chained, goodMarks, sound, kept}
+use Rattle.journal.specs.Boundary.{oldest}
+use Rattle.journal_post.specs.Post.{postedName, postCheck, verdict, postedVolume, postedRing}
+use Rattle.journal_post.specs.Posts.{Journal, Posting}
+use Rattle.image.specs.Image.{Image, words, wordSum, sumOf, sealed, imageOf, goodTrailer, allOf, lastFrom, fitsRing, readImage}
+use Rattle.image.proofs.Examples.{oneImage, oneBytes, one-read, one-bytes, below-bytes}
+use Rattle.image_save.specs.Save.{saveCheck, imageReply, saveAs, saveReply}
+use Rattle.image_load.specs.Load.{postingOf, formCheck, fitCheck, loadCheck, loadOutcome, loadRing}
+use Rattle.history.specs.Calls.{Call, create, post, load, loadEffect, next, runs}
+use Rattle.history.specs.Log.{History, opened, notePosts, notes, openedBy, opening}
+use Rattle.history.proofs.Effects.{clash}
+use Rattle.restart.specs.Restart.{NeverLoads, SavedAs, TypedJournal, IsImage, Ready, Again}
+use Rattle.restart.specs.Across.{GoesOn}
+use Rattle.restart.proofs.Whole.{restart}
+use Rattle.restart.proofs.Across.{across}
+
+-- ---- the journal
+
+abbrev pub saved : Volume
+saved = record { usn = 0; regions = 0; reparse = 0; points = 0; journal = 1; state = 1; id = 7; first = 80; last = 160; capacity = 1024 }
+
+-- 1,024 bytes: at place 80 the record of file 5 in parent 6, with the Usn 160
+pub ring : List ℕ
+ring =
+    replicate 80 0 ++ (
+    80 ∷ 0 ∷ 0 ∷ 0 ∷ 3 ∷ 0 ∷ 0 ∷ 0
+    ∷ 5 ∷ 0 ∷ 0 ∷ 0 ∷ 0 ∷ 0 ∷ 0 ∷ 0
+    ∷ 0 ∷ 0 ∷ 0 ∷ 0 ∷ 0 ∷ 0 ∷ 0 ∷ 0
+    ∷ 6 ∷ 0 ∷ 0 ∷ 0 ∷ 0 ∷ 0 ∷ 0 ∷ 0
+    ∷ 0 ∷ 0 ∷ 0 ∷ 0 ∷ 0 ∷ 0 ∷ 0 ∷ 0
+    ∷ 160 ∷ 0 ∷ 0 ∷ 0 ∷ 0 ∷ 0 ∷ 0 ∷ 0
+    ∷ 0 ∷ 0 ∷ 0 ∷ 0 ∷ 0 ∷ 0 ∷ 0 ∷ 0
+    ∷ 0 ∷ 1 ∷ 0 ∷ 0 ∷ 0 ∷ 0 ∷ 0 ∷ 0
+    ∷ 0 ∷ 0 ∷ 0 ∷ 0 ∷ 0x20 ∷ 0 ∷ 0 ∷ 0
+    ∷ 2 ∷ 0 ∷ 76 ∷ 0 ∷ 0x61 ∷ 0 ∷ 0 ∷ 0 ∷ replicate 864 0)
+
+-- 96 bytes of room are enough
+pub one-saved : saveReply saved ring 96 ≡ give Success oneBytes
+unfolding ring saveAs saveCheck imageReply sound goodMarks goodCapacity goodPosition kept keptBytes rotated records recordsIn parse parseAs accepted goodName layout encode decode le unle total begins chained keeps imageOf sealed sumOf wordSum words joined
+one-saved = refl
+
+typed : TypedJournal saved ring
+unfolding ring
+typed = (below-bytes ring refl, lit< tt)
+
+-- ---- it is there again on an idle volume, whatever its ring held
+
+abbrev pub idle : Volume
+idle = record { usn = 0; regions = 0; reparse = 0; points = 0; journal = 1; state = 0; id = 3; first = 8; last = 1000; capacity = 1024 }
+
+pub other : List ℕ
+other = replicate 1024 255
+
+ready : Ready saved idle other 8
+unfolding other
+ready =
+    record {
+      support = refl;
+      inactive = refl;
+      undeleted = refl;
+      capacity = refl;
+      buffer = refl;
+      nonzero = λ z. omega arith;
+      fresh = λ z. omega arith;
+      unused = λ z. omega arith;
+    }
+
+pub one-again : Again saved ring 8 (loadOutcome idle other oneBytes 8) (loadRing idle other oneBytes 8)
+one-again = restart .again saved ring oneBytes typed (96, one-saved) idle other 8 ready
+
+-- ---- and its history goes on there: the journal is one created at position 80, with one post
+
+abbrev pub blank : Journal
+blank =
+    record {
+      volume = record { usn = 0; regions = 0; reparse = 0; points = 0; journal = 1; state = 0; id = 0; first = 0; last = 80; capacity = 1024 };
+      ring = replicate 1024 0;
+    }
+
+abbrev pub posting : Posting
+posting =
+    record {
+      change = record { file = 5; parent = 6; time = 0; reason = 0x100; source = 0; security = 0; attributes = 0x20 };
+      name = 0x61 ∷ 0 ∷ [];
+    }
+
+abbrev pub calls : List Call
+calls = post posting ∷ []
+
+abbrev pub history : History
+history = opened (blank .volume) 1024 80 7
+
+abbrev pub loadedHistory : History
+loadedHistory = notePosts (opened idle 1024 80 8) (map postingOf (oneImage .records))
+
+calls-leave : record { volume = saved; ring = ring } ≡ runs (next blank (create 7)) calls
+unfolding ring verdict postCheck postedName postedVolume postedRing oldest placed rotated sound goodMarks goodCapacity goodPosition kept keptBytes records recordsIn goodName layout encode le chained
+calls-leave = refl
+
+loaded-opens : opening idle 1024 (load oneBytes 8) ≡ some loadedHistory
+loaded-opens = ap (λ (o : Option Image). openedBy idle 1024 (loadEffect 8 o)) one-read
+
+pub one-across : GoesOn (notes history calls) loadedHistory
+unfolding other goodCapacity goodPosition
+one-across =
+    across blank (create 7) history refl refl calls tt
+    (record { file = lit< tt; parent = lit< tt; time = lit< tt; reason = lit< tt; source = lit< tt; security = lit< tt; attributes = lit< tt }, tt)
+    (λ q. clash cc, tt) oneBytes one-bytes (subst (λ (j : Journal). TypedJournal (j .volume) (j .ring)) calls-leave typed)
+    (subst (λ (j : Journal). SavedAs (j .volume) (j .ring) oneBytes) calls-leave (96, one-saved)) (record { volume = idle; ring = other }) 8 loadedHistory
+    (one-again .status) loaded-opens
+
+-- ---- cut short, and with another word
+
+is-image : IsImage oneBytes
+is-image = inr (saved, ring, typed, (96, one-saved))
+
+pub one-cut : NeverLoads (take 95 oneBytes)
+one-cut = restart .cut oneBytes one-bytes is-image 95 (lit< tt)
+
+-- another file id
+abbrev pub renamed : List ℕ
+renamed = set oneBytes 8 9
+
+pub one-word : NeverLoads renamed
+one-word =
+    restart .word oneBytes renamed 2 one-bytes (below-bytes renamed refl) is-image
+    (record { size = refl; front = refl; back = refl; other = λ z. let d : _≡_ {A = ℕ} 9 5 = ap (λ (s : List ℕ). getD s 8 0) z in omega arith })
+
+-- ---- the checks
+
+-- a volume of capacity 1,024 whose last id was 3, with this support and state; a buffer, an image and a new id; what a load says
+pub record Check : Type 0 where
+  pub support : ℕ
+  pub state : ℕ
+  pub buffer : ℕ
+  pub image : List ℕ
+  pub id : ℕ
+  pub says : Option Status
+
+abbrev volumeIn : ℕ → ℕ → Volume
+volumeIn support state =
+    record { usn = 0; regions = 0; reparse = 0; points = 0; journal = support; state = state; id = 3; first = 8; last = 1000; capacity = 1024 }
+
+abbrev pub checks : List Check
+checks =
+    record { support = 1; state = 0; buffer = 1024; image = oneBytes; id = 8; says = none }
+    -- an id that is the image's, 0 or the volume's last one
+    ∷ record { support = 1; state = 0; buffer = 1024; image = oneBytes; id = 7; says = some InvalidParameter }
+    ∷ record { support = 1; state = 0; buffer = 1024; image = oneBytes; id = 0; says = some InvalidParameter }
+    ∷ record { support = 1; state = 0; buffer = 1024; image = oneBytes; id = 3; says = some InvalidParameter }
+    -- no support, being deleted, active
+    ∷ record { support = 0; state = 0; buffer = 1024; image = oneBytes; id = 8; says = some InvalidDeviceRequest }
+    ∷ record { support = 1; state = 2; buffer = 1024; image = oneBytes; id = 8; says = some JournalDeleteInProgress }
+    ∷ record { support = 1; state = 1; buffer = 1024; image = oneBytes; id = 8; says = some InvalidParameter }
+    -- form 2, 31 bytes, another sum, another length of the buffer
+    ∷ record { support = 1; state = 0; buffer = 1024; image = set oneBytes 92 2; id = 8; says = some UnknownRevision }
+    ∷ record { support = 1; state = 0; buffer = 1024; image = take 31 oneBytes; id = 8; says = some FileCorruptError }
+    ∷ record { support = 1; state = 0; buffer = 1024; image = set oneBytes 88 9; id = 8; says = some FileCorruptError }
+    ∷ record { support = 1; state = 0; buffer = 1016; image = oneBytes; id = 8; says = some FileCorruptError }
+    ∷ []
+
+pub checks-right : map (λ (e : Check). record {
+  support = e .support;
+  state = e .state;
+  buffer = e .buffer;
+  image = e .image;
+  id = e .id;
+  says = loadCheck (volumeIn (e .support) (e .state)) (e .buffer) (e .image) (e .id);
+}) checks ≡ checks
+unfolding loadCheck formCheck fitCheck goodCapacity goodPosition readImage goodTrailer wordSum words decode unle numberAt total records recordsIn parse parseAs accepted goodName layout encode le begins allOf lastFrom fitsRing chained keeps
+checks-right = refl
+
+-- records that span 1,032 bytes, under a new id and under 0: the id is checked first
+pub fits-right : map (λ (id : ℕ). fitCheck idle 1024 id 7 1032) (8 ∷ 0 ∷ []) ≡ some DiskFull ∷ some InvalidParameter ∷ []
+unfolding fitCheck goodCapacity
+fits-right = refl
