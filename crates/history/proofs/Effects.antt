@@ -23,7 +23,7 @@ use Rattle.records.proofs.Runs.{AllSound}
 use Rattle.journal_post.specs.Posts.{Journal, Posting, afterPost, afterPosts}
 use Rattle.image.specs.Image.{Image}
 use Rattle.image.proofs.RoundTrip.{read-fit, read-storable, fitting}
-use Rattle.image_load.specs.Load.{stored, postingOf, restored, settled, loadCheck, loadOutcome}
+use Rattle.image_load.specs.Load.{stored, postingOf, restored, settled, loadCheck}
 use Rattle.image_load.proofs.Restoring.{load-none, load-passed, load-succeeds, created-made}
 use Rattle.history.specs.Calls.{Call, create, post, read, delete, finish, save, load, Called, leaving, called, Effect, opens, posts, closes, nothing, loadEffect, effect, Widths, Typed}
 

@@ -23,11 +23,9 @@ use Rattle.usn_record.specs.declared.Version.the-variants.{V3}
 use Rattle.usn_record.specs.Layout.{recordLength, shown, goodName, Record, bytesOf}
 use Rattle.usn_record.proofs.Name.{short}
 use Rattle.record_reader.proofs.Judge.{shown-same, shown-lt}
-use Rattle.records.specs.Records.{whole, recordList, records, joined}
-use Rattle.records.proofs.Runs.{joined-read}
-use Rattle.journal.specs.Kept.{keptBytes, keeps, chained, inChain, goodMarks, sound, kept}
+use Rattle.records.specs.Records.{whole, records, joined}
+use Rattle.journal.specs.Kept.{keptBytes, keeps, goodMarks, sound, kept}
 use Rattle.journal.specs.Boundary.{oldest}
-use Rattle.journal.proofs.Boundaries.{facts-marks, facts-sound}
 use Rattle.journal_post.specs.declared.Change.{Change}
 use Rattle.journal_post.specs.declared.Verdict.{Verdict}
 use Rattle.journal_post.specs.declared.Verdict.the-variants.{Skip, Reject, Accept}
@@ -36,7 +34,7 @@ use Rattle.journal_post.specs.Posts.{Journal, Posting, afterPost, afterPosts}
 use Rattle.history.specs.Calls.{Call, Called, called, statusOf, next, runs, Effect, opens, posts, closes, nothing, effect, Widths, Typed, AllTyped}
 use Rattle.history.specs.Log.{History, posted, opened, endWith, isPosted, Shed, shed, shedTo, added, closed, notePost, notePosts, noteDelete, noteEffect, note, notes, openedBy, opening}
 use Rattle.history.specs.Demand.{isOpening, CreatesNone, NoCreation}
-use Rattle.journal_post.proofs.Links.{Link, Chain, chain-le, chain-append, chain-eight}
+use Rattle.journal_post.proofs.Links.{Link, Chain, chain-append, chain-eight}
 use Rattle.history.proofs.Effects.{clash, and-true, usable, with, emptied, afterDelete, Does, either, unusable, does, AllWidths, TypedEffect, typed-effect}
 use Rattle.history.proofs.Sim.{Live, Sim, Grow}
 use Rattle.journal_post.proofs.Writing.{posted-bytes}
