@@ -1,4 +1,5 @@
 #define _POSIX_C_SOURCE 200809L
+#include <errno.h>
 #include <fcntl.h>
 #include <stdio.h>
 #include <unistd.h>
@@ -33,33 +34,52 @@ int save(int folder)
     return renameat(folder, "journal.new", folder, "journal") == 0 && fsync(folder) == 0;
 }
 
-/* Reads the saved image, and gives its size: 0 if there is none. Of a file with more bytes a part is read, which is refused. */
-static size_t read_image(int folder)
+/*
+ * Reads the saved image, and gives its size: 0 if there is none, -1 if it cannot be read now. Of a file with more bytes a part is read,
+ * which is refused.
+ */
+static ssize_t read_image(int folder)
 {
-    size_t size = 0;
-    ssize_t got = 0;
     int file = openat(folder, "journal", O_RDONLY);
     if (file < 0)
-        return 0;
-    while (size < sizeof image && (got = read(file, image + size, sizeof image - size)) > 0)
-        size += (size_t)got;
+        return errno == ENOENT ? 0 : -1;
+    size_t size = 0;
+    ssize_t got;
+    do {
+        got = read(file, image + size, sizeof image - size);
+        if (got > 0)
+            size += (size_t)got;
+    } while (got > 0 || (got < 0 && errno == EINTR));
     close(file);
-    return got < 0 ? 0 : size;
+    return got < 0 ? -1 : (ssize_t)size;
+}
+
+/* A new journal, in which every service begins anew. */
+static int create(int folder, uint64_t id)
+{
+    volume.last = 8;
+    return usn_create(&volume, id) == USN_SUCCESS && save(folder);
 }
 
 int start(int folder)
 {
-    size_t size = read_image(folder);
-    uint64_t id = new_id();
-    uint32_t status = usn_load_journal(&volume, ring, sizeof ring, image, size, id);
-    if (status == USN_INVALID_PARAMETER) /* the id was used before: services would read on in the wrong journal */
+    ssize_t size = read_image(folder);
+    if (size < 0)
         return 0;
-    if (status != USN_SUCCESS) {         /* no journal can be had from the file: a new one, in which every service begins anew */
-        volume.last = 8;
-        return usn_create(&volume, id) == USN_SUCCESS && save(folder);
+    uint64_t id = new_id();
+    switch (usn_load_journal(&volume, ring, sizeof ring, image, (size_t)size, id)) {
+    case USN_SUCCESS:
+        break;
+    case USN_UNKNOWN_REVISION: /* no journal can be had from these bytes: they are kept aside */
+    case USN_FILE_CORRUPT_ERROR:
+        if (size > 0 && renameat(folder, "journal", folder, "journal.bad") != 0)
+            return 0;
+        return create(folder, id);
+    default: /* the id was used before, or the ring is smaller than the one that was saved: the image stays for a right start */
+        return 0;
     }
     uint64_t saved_id = usn_get_number(image + size - 16, 8);
-    if (!save(folder))                   /* under the new id, for the next start */
+    if (!save(folder)) /* under the new id, for the next start */
         return 0;
     tell_services(saved_id, volume.last);
     return 1;

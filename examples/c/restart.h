@@ -11,16 +11,20 @@ extern uint8_t ring[USN_CAPACITY_MIN];
 /* An id that no journal of this volume has had: a counter that is kept before it is used, or the time. */
 uint64_t new_id(void);
 
-/* Tells the services that they may go on under volume.id if they stand in journal `id`, at most at position `last`. */
+/*
+ * Tells the services, those too that come later, that they may go on under volume.id if they stand in journal `id`, at most at position
+ * `last`: the LastUsn of this moment, not of later.
+ */
 void tell_services(uint64_t id, uint64_t last);
 
 /*
  * Saves the journal in an open folder: after its creation and every post, and before the file itself is changed, so that no change
- * outlasts its record. 0 if that failed; then the change is refused.
+ * outlasts its record. 0 if that failed; then the change is refused. One at a time, from the call to its return, so that no older image
+ * replaces a newer one.
  */
 int save(int folder);
 
-/* When the process starts: goes on with the saved journal, or begins one. 0 if there is no journal then. */
+/* When the process starts: goes on with the saved journal, or begins one. 0 if there is no journal then; the saved image is still there. */
 int start(int folder);
 
 #endif

@@ -135,6 +135,6 @@ int main(void)
     restart();
     expect(follow(&service));
 
-    want(unlinkat(folder, "journal", 0) == 0 && rmdir(name) == 0, name);
+    want(unlinkat(folder, "journal.bad", 0) == 0 && unlinkat(folder, "journal", 0) == 0 && rmdir(name) == 0, name);
     return 0;
 }
