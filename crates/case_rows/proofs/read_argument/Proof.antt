@@ -1,16 +1,9 @@
 -- `read_argument` meets its contract: the name lies in its buffer, and what was read in `buf`.
 -- Assumes nothing.
-use mathlib.Core.Path.{_≡_}
-use Prim.Native.Nat.{ℕ, _≤_}
 use borrow.Author.Needs.{needs}
-use Rattle.list_input.specs.declared.Input.{Input}
-use Rattle.list_input.specs.declared.Input.the-variants.{Bytes}
-use Rattle.list_input.specs.Input.{Within}
+use Rattle.list_input.proofs.Inputs.{within}
 use Rattle.case_rows.proofs.read_argument.Statement.{statement}
 use Rattle.case_rows.proofs.read_argument.Tie as tie
-
-within : (size n : ℕ) (r : Input) → r ≡ Bytes n → Within size r → n ≤ size
-within size n r e w = rw e at w
 
 returns-2 : tie.Need-returns-2
 returns-2 c =

@@ -7,14 +7,10 @@ use native.Mathlib.Omega.{arith}
 use lib.ListN.{length, take}
 use lib.Seq.{take-all, length-take-le}
 use Rattle.status.proofs.Replies.{count-fits}
-use Rattle.list_input.specs.declared.Input.{Input}
-use Rattle.list_input.specs.declared.Input.the-variants.{Bytes}
-use Rattle.list_input.specs.Input.{Within, ReadInto}
+use Rattle.list_input.specs.Input.{ReadInto}
+use Rattle.list_input.proofs.Inputs.{within}
 use Rattle.list_input.proofs.list.Statement.{statement}
 use Rattle.list_input.proofs.list.Tie as tie
-
-within : (size n : ℕ) (r : Input) → r ≡ Bytes n → Within size r → n ≤ size
-within size n r e w = rw e at w
 
 -- an input of which all was read
 whole : (buf : List ℕ) (n : ℕ) → n ≤ length buf → ReadInto buf n (take n buf)
