@@ -27,7 +27,7 @@ use Rattle.kept_writer.specs.Kept.{fits}
 use Rattle.journal_page.specs.Page.{pageOf, pageReply}
 use Rattle.journal_read.specs.Read.{isDeleted, origin, deletedCheck, readAnswer}
 use Rattle.journal_post.specs.Posts.{Journal, Posting}
-use Rattle.image.specs.Image.{Image, words, wordSum, goodTrailer, allOf, lastFrom, fitsRing, readImage}
+use Rattle.image.specs.Image.{Image, wordsIn, wordSum, goodTrailer, allOf, lastFrom, fitsRing, readImage}
 use Rattle.image.proofs.Examples.{oneImage, oneBytes, one-read, one-bytes}
 use Rattle.image_load.specs.Load.{postingOf, formCheck, fitCheck, loadCheck}
 use Rattle.history.specs.Calls.{Read, create, post, read, load, loadEffect, replyTo, statusOf, next, runs, Widths, AllTyped}
@@ -200,7 +200,7 @@ told-deleted = reader 14 (List·Memᴰ·head refl) .deleted (asks 80 600) (refl,
 -- ---- a journal that is loaded: the image of one record, from position 80 to 160, under the new id 8
 
 loaded-right : statusOf disk (load oneBytes 8) ≡ Success
-unfolding loadCheck formCheck fitCheck goodCapacity goodPosition readImage goodTrailer wordSum words decode unle numberAt total records recordsIn parse parseAs accepted goodName layout encode le begins allOf lastFrom fitsRing chained keeps
+unfolding loadCheck formCheck fitCheck goodCapacity goodPosition readImage goodTrailer wordSum wordsIn decode unle numberAt total records recordsIn parse parseAs accepted goodName layout encode le begins allOf lastFrom fitsRing chained keeps
 loaded-right = refl
 
 loadedHistory : History

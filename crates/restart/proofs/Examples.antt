@@ -23,7 +23,7 @@ use Rattle.journal.specs.Kept.{keptBytes, keeps, chained, goodMarks, sound, kep
 use Rattle.journal.specs.Boundary.{oldest}
 use Rattle.journal_post.specs.Post.{postedName, postCheck, verdict, postedVolume, postedRing}
 use Rattle.journal_post.specs.Posts.{Journal, Posting}
-use Rattle.image.specs.Image.{Image, words, wordSum, sumOf, sealed, imageOf, goodTrailer, allOf, lastFrom, fitsRing, readImage}
+use Rattle.image.specs.Image.{Image, wordsIn, wordSum, sumOf, sealed, imageOf, goodTrailer, allOf, lastFrom, fitsRing, readImage}
 use Rattle.image.proofs.Examples.{oneImage, oneBytes, one-read, one-bytes, below-bytes}
 use Rattle.image_save.specs.Save.{saveCheck, imageReply, saveAs, saveReply}
 use Rattle.image_load.specs.Load.{postingOf, formCheck, fitCheck, loadCheck, loadOutcome, loadRing}
@@ -57,7 +57,7 @@ ring =
 
 -- 96 bytes of room are enough
 pub one-saved : saveReply saved ring 96 ≡ give Success oneBytes
-unfolding ring saveAs saveCheck imageReply sound goodMarks goodCapacity goodPosition kept keptBytes rotated records recordsIn parse parseAs accepted goodName layout encode decode le unle total begins chained keeps imageOf sealed sumOf wordSum words joined
+unfolding ring saveAs saveCheck imageReply sound goodMarks goodCapacity goodPosition kept keptBytes rotated records recordsIn parse parseAs accepted goodName layout encode decode le unle total begins chained keeps imageOf sealed sumOf wordSum wordsIn joined
 one-saved = refl
 
 typed : TypedJournal saved ring
@@ -188,7 +188,7 @@ pub checks-right : map (λ (e : Check). record {
   id = e .id;
   says = loadCheck (volumeIn (e .support) (e .state)) (e .buffer) (e .image) (e .id);
 }) checks ≡ checks
-unfolding loadCheck formCheck fitCheck goodCapacity goodPosition readImage goodTrailer wordSum words decode unle numberAt total records recordsIn parse parseAs accepted goodName layout encode le begins allOf lastFrom fitsRing chained keeps
+unfolding loadCheck formCheck fitCheck goodCapacity goodPosition readImage goodTrailer wordSum wordsIn decode unle numberAt total records recordsIn parse parseAs accepted goodName layout encode le begins allOf lastFrom fitsRing chained keeps
 checks-right = refl
 
 -- records that span 1,032 bytes, under a new id and under 0: the id is checked first
