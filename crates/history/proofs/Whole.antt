@@ -204,16 +204,17 @@ promise j h d m t =
 
 -- ---- the whole list
 
--- a reader that starts after the calls `before`
+-- a reader that starts after the calls `before` stands rightly in the end
 module _ (ts : List Turn) (start : ℕ) (f : Filter) (pos : start ≡ 0 → ⊥) where
-  from : (before : List Call) (j : Journal) (h : History) → Sim j h → AllTyped (before ++ map callOf ts) → NoCreation j (before ++ map callOf ts)
+  pub stands : (before : List Call) (j : Journal) (h : History) → Sim j h → AllTyped (before ++ map callOf ts) → NoCreation j (before ++ map callOf ts)
       → Startable (notes h before) start → Chosen (runs j before) (fresh start f) ts
-      → ReaderPromise (runs j (before ++ map callOf ts)) (notes h (before ++ map callOf ts)) (follow (runs j before) (fresh start f) ts)
-  from [] j h m y n at own =
-      promise (runs j (map callOf ts)) (notes h (map callOf ts)) (follow j (fresh start f) ts) (sim-run (map callOf ts) j h m y n)
-      (stand-run ts j h (fresh start f) m (stand-fresh j h m start f pos at) y n own)
-  from (c ∷ before) j h m y n at own = from before (next j c) (note h c) (sim-step j h m c (y .0) (n .0) .0) (y .1) (n .1) at own
+      → Stand (notes h (before ++ map callOf ts)) (follow (runs j before) (fresh start f) ts)
+  stands [] j h m y n at own = stand-run ts j h (fresh start f) m (stand-fresh j h m start f pos at) y n own
+  stands (c ∷ before) j h m y n at own = stands before (next j c) (note h c) (sim-step j h m c (y .0) (n .0) .0) (y .1) (n .1) at own
 
 -- the promise to every reader, over every list of calls from a creation on
 pub demand3 : Demand3
-demand3 j c h k o before ts start f w y n at pos own = from ts start f pos before (next j c) h (opening-sim j c h w k o) y n at own
+demand3 j c h k o before ts start f w y n at pos own =
+    let m = opening-sim j c h w k o in
+    promise (runs (next j c) (before ++ map callOf ts)) (notes h (before ++ map callOf ts)) (follow (runs (next j c) before) (fresh start f) ts)
+    (sim-run (before ++ map callOf ts) (next j c) h m y n) (stands ts start f pos before (next j c) h m y n at own)

@@ -1,7 +1,7 @@
 -- A journal of one record that is saved and loaded again, and the checks of a load: one table and one statement.
 -- Assumes nothing.
 use mathlib.Core.Path.{_≡_, refl, ap, subst}
-use mathlib.Core.Logic.{inr}
+use mathlib.Core.Logic.{inl, inr}
 use mathlib.Core.List.{List, [], _∷_, _++_, map}
 use mathlib.Core.Option.{Option, none, some}
 use Prim.Native.Nat.{ℕ}
@@ -15,6 +15,7 @@ use Rattle.status.specs.declared.Status.the-variants.{Success, InvalidParameter
 use Rattle.status.specs.Reply.{give}
 use Rattle.volume.specs.declared.Volume.{Volume}
 use Rattle.volume.specs.State.{goodCapacity, goodPosition}
+use Rattle.usn_record.specs.declared.Version.the-variants.{V3}
 use Rattle.usn_record.specs.Layout.{layout, goodName}
 use Rattle.record_reader.specs.Read.{accepted, parseAs, parse}
 use Rattle.records.specs.Records.{recordsIn, records, joined}
@@ -28,7 +29,8 @@ use Rattle.image.proofs.Examples.{oneImage, oneBytes, one-read, one-bytes, belo
 use Rattle.image_save.specs.Save.{saveCheck, imageReply, saveAs, saveReply}
 use Rattle.image_load.specs.Load.{postingOf, formCheck, fitCheck, loadCheck, loadOutcome, loadRing}
 use Rattle.history.specs.Calls.{Call, create, post, load, loadEffect, next, runs}
-use Rattle.history.specs.Log.{History, opened, notePosts, notes, openedBy, opening}
+use Rattle.history.specs.Log.{History, posted, opened, isPosted, shed, added, notePost, notePosts, notes, openedBy, opening}
+use Rattle.history.specs.Reading.{Reader, fresh}
 use Rattle.history.proofs.Effects.{clash}
 use Rattle.restart.specs.Restart.{NeverLoads, SavedAs, TypedJournal, IsImage, Ready, Again}
 use Rattle.restart.specs.Across.{GoesOn}
@@ -40,10 +42,9 @@ use Rattle.restart.proofs.Across.{across}
 abbrev pub saved : Volume
 saved = record { usn = 0; regions = 0; reparse = 0; points = 0; journal = 1; state = 1; id = 7; first = 80; last = 160; capacity = 1024 }
 
--- 1,024 bytes: at place 80 the record of file 5 in parent 6, with the Usn 160
-pub ring : List ℕ
-ring =
-    replicate 80 0 ++ (
+-- the record of file 5 in parent 6, with the Usn 160
+abbrev pub recordBytes : List ℕ
+recordBytes =
     80 ∷ 0 ∷ 0 ∷ 0 ∷ 3 ∷ 0 ∷ 0 ∷ 0
     ∷ 5 ∷ 0 ∷ 0 ∷ 0 ∷ 0 ∷ 0 ∷ 0 ∷ 0
     ∷ 0 ∷ 0 ∷ 0 ∷ 0 ∷ 0 ∷ 0 ∷ 0 ∷ 0
@@ -53,7 +54,11 @@ ring =
     ∷ 0 ∷ 0 ∷ 0 ∷ 0 ∷ 0 ∷ 0 ∷ 0 ∷ 0
     ∷ 0 ∷ 1 ∷ 0 ∷ 0 ∷ 0 ∷ 0 ∷ 0 ∷ 0
     ∷ 0 ∷ 0 ∷ 0 ∷ 0 ∷ 0x20 ∷ 0 ∷ 0 ∷ 0
-    ∷ 2 ∷ 0 ∷ 76 ∷ 0 ∷ 0x61 ∷ 0 ∷ 0 ∷ 0 ∷ replicate 864 0)
+    ∷ 2 ∷ 0 ∷ 76 ∷ 0 ∷ 0x61 ∷ 0 ∷ 0 ∷ 0 ∷ []
+
+-- 1,024 bytes: the record at place 80
+pub ring : List ℕ
+ring = replicate 80 0 ++ (recordBytes ++ replicate 864 0)
 
 -- 96 bytes of room are enough
 pub one-saved : saveReply saved ring 96 ≡ give Success oneBytes
@@ -89,6 +94,17 @@ ready =
 pub one-again : Again saved ring 8 (loadOutcome idle other oneBytes 8) (loadRing idle other oneBytes 8)
 one-again = restart .again saved ring oneBytes typed (96, one-saved) idle other 8 ready
 
+-- the volume record and the ring that the load leaves there
+abbrev pub loadedVolume : Volume
+loadedVolume = record { usn = 0; regions = 0; reparse = 0; points = 0; journal = 1; state = 1; id = 8; first = 80; last = 160; capacity = 1024 }
+
+pub loadedRing : List ℕ
+loadedRing = replicate 80 255 ++ (recordBytes ++ replicate 864 255)
+
+pub one-loaded : (loadOutcome idle other oneBytes 8 ≡ record { status = Success; volume = loadedVolume }) × (loadRing idle other oneBytes 8 ≡ loadedRing)
+unfolding other loadedRing loadCheck formCheck fitCheck goodCapacity goodPosition readImage goodTrailer wordSum wordsIn decode unle numberAt total records recordsIn parse parseAs accepted goodName layout encode le begins allOf lastFrom fitsRing chained keeps verdict postCheck postedName postedVolume postedRing oldest placed rotated sound goodMarks kept keptBytes
+one-loaded = (refl, refl)
+
 -- ---- and its history goes on there: the journal is one created at position 80, with one post
 
 abbrev pub blank : Journal
@@ -121,12 +137,25 @@ calls-leave = refl
 loaded-opens : opening idle 1024 (load oneBytes 8) ≡ some loadedHistory
 loaded-opens = ap (λ (o : Option Image). openedBy idle 1024 (loadEffect 8 o)) one-read
 
-pub one-across : GoesOn (notes history calls) loadedHistory
-unfolding other goodCapacity goodPosition
+-- the record of the post, alone, under its old Usn
+pub one-posted : posted loadedHistory ≡ record {
+  version = V3;
+  fields = record { file = 5; parent = 6; usn = 160; time = 0; reason = 0x100; source = 0; security = 0; attributes = 0x20 };
+  name = 0x61 ∷ 0 ∷ [];
+} ∷ []
+unfolding opened isPosted shed added notePost postedName goodName
+one-posted = refl
+
+-- a reader of all records that had come to position 80
+abbrev pub reader : Reader
+reader = fresh 80 (record { mask = 0xFFFFFFFF; close = 0 })
+
+pub one-across : GoesOn (notes history calls) reader (next (record { volume = idle; ring = other }) (load oneBytes 8)) loadedHistory
+unfolding other goodCapacity goodPosition opened isPosted added notePost postedName goodName
 one-across =
-    across blank (create 7) history refl refl calls tt
+    across blank (create 7) history refl refl calls [] 80 (reader .filter) tt
     (record { file = lit< tt; parent = lit< tt; time = lit< tt; reason = lit< tt; source = lit< tt; security = lit< tt; attributes = lit< tt }, tt)
-    (λ q. clash cc, tt) oneBytes one-bytes (subst (λ (j : Journal). TypedJournal (j .volume) (j .ring)) calls-leave typed)
+    (λ q. clash cc, tt) (inl refl) (λ z. omega arith) tt (subst (λ (j : Journal). TypedJournal (j .volume) (j .ring)) calls-leave typed) oneBytes one-bytes
     (subst (λ (j : Journal). SavedAs (j .volume) (j .ring) oneBytes) calls-leave (96, one-saved)) (record { volume = idle; ring = other }) 8 loadedHistory
     (one-again .status) loaded-opens
 
