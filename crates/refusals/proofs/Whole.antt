@@ -15,7 +15,7 @@ use Rattle.status.specs.Check.{unless}
 use Rattle.status.specs.Reply.{Reply, refuse, give, guard, answer, after}
 use Rattle.usn_record.specs.declared.Version.{Version}
 use Rattle.usn_record.specs.Layout.{Record, recordLength, layout}
-use Rattle.record_writer.specs.Write.{writeCheck}
+use Rattle.record_writer.specs.Write.{writeCheck, copyReply, olderBytes}
 use Rattle.usn_listing.specs.Listing.{listing}
 use Rattle.volume.specs.declared.Volume.{Volume}
 use Rattle.volume.specs.State.{idle, deleting}
@@ -42,7 +42,7 @@ use Rattle.image.specs.Image.{imageOf}
 use Rattle.image_save.specs.Save.{saveCheck, content, imageReply, saveAs}
 use Rattle.image_load.specs.Load.{stored, restored, settled, loadCheck}
 use Rattle.history.specs.Calls.{Call, create, post, read, delete, finish, save, load, statusOf, next}
-use Rattle.refusals.specs.Refusal.{isRefusal, Control, readJournal, saveJournal, readFile, readFileTable, queryRegions, getReparsePoint, listRecords, writeRecord, copyRecord, replyOf, usnAfter, Refusals}
+use Rattle.refusals.specs.Refusal.{isRefusal, Control, readJournal, saveJournal, readFile, readFileTable, queryRegions, getReparsePoint, listRecords, writeRecord, copyRecord, copyOlder, replyOf, usnAfter, Refusals}
 
 refutes : {A : Type 0} (b : Bool) → b ≡ false → b ≡ true → A
 refutes b e h = let z : _≡_ {A = Bool} false true = sym e ∙ h in let n : _≡_ {A = ℕ} 0 1 = cc in absurd (omega arith)
@@ -101,6 +101,9 @@ plain-asked f a room =
     let rs = regionsOf (f .eof) (f .valid) a in
     plain-cond (isOutside (f .eof) (a .offset)) (give Success []) (answerRegions rs room) refl (plain-regions rs room)
 
+plain-copy : (bytes : List ℕ) (room : ℕ) → Plain (copyReply bytes room)
+plain-copy bytes room = plain-guard (unless (leb (length bytes) room) BufferTooSmall) (give Success bytes) refl
+
 plain-control : (c : Control) (room : ℕ) → Plain (replyOf c room)
 unfolding readReply saveAs imageReply regionsReply reparseReply
 plain-control (readJournal v ring input) room =
@@ -118,7 +121,8 @@ plain-control (queryRegions v f input) room =
 plain-control (getReparsePoint v f bytes) room = plain-guard (reparseCheck v f bytes room) (give Success (reparseBytes f bytes room)) refl
 plain-control (listRecords s) room = plain-guard (unless (leb (64 + 2 * length s) room) BufferTooSmall) (give Success (listing s)) refl
 plain-control (writeRecord v f name) room = plain-guard (writeCheck v f name room) (give Success (layout v f name)) refl
-plain-control (copyRecord bytes) room = plain-guard (unless (leb (length bytes) room) BufferTooSmall) (give Success bytes) refl
+plain-control (copyRecord bytes) room = plain-copy bytes room
+plain-control (copyOlder bytes) room = plain-copy (olderBytes bytes) room
 
 -- ---- calls
 

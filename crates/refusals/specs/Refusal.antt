@@ -13,7 +13,7 @@ use Rattle.usn_record.specs.declared.Fields.{Fields}
 use Rattle.volume.specs.declared.Volume.{Volume}
 use Rattle.file_record.specs.declared.FileRecord.{FileRecord}
 use Rattle.file_links.specs.declared.Link.{Link}
-use Rattle.record_writer.specs.Write.{writeReply, copyReply}
+use Rattle.record_writer.specs.Write.{writeReply, copyReply, olderReply}
 use Rattle.usn_listing.specs.Listing.{listReply}
 use Rattle.journal_read.specs.Read.{readReply}
 use Rattle.image_save.specs.Save.{saveReply}
@@ -48,8 +48,9 @@ pub data Control : Type 0 where
   listRecords : List ℕ → Control
   -- version, fields, name
   writeRecord : Version → Fields → List ℕ → Control
-  -- a record's own bytes
+  -- a record's own bytes, as they are or in version 2
   copyRecord : List ℕ → Control
+  copyOlder : List ℕ → Control
 
 -- its reply into so much room, by the definition that its contract cites
 abbrev pub replyOf : Control → ℕ → Reply
@@ -62,6 +63,7 @@ replyOf (getReparsePoint v f bytes) room = reparseReply v f bytes room
 replyOf (listRecords s) room = listReply s room
 replyOf (writeRecord v f name) room = writeReply v f name room
 replyOf (copyRecord bytes) room = copyReply bytes room
+replyOf (copyOlder bytes) room = olderReply bytes room
 
 -- ---- what changes records
 
