@@ -10,9 +10,10 @@
  * overlap anything else that is lent to it, and nobody else may use it meanwhile; nor may anyone change what the call reads. A struct
  * that is passed by value is only read.
  *
- * Answers. A status other than USN_SUCCESS is a refusal: it reports 0 bytes and has changed no buffer and no record. With
- * USN_SUCCESS the output holds `count` bytes of reply, and its bytes behind them are as they were. Each call gives the first status
- * that applies, in the order listed with it.
+ * Answers. USN_BUFFER_OVERFLOW is a warning: the reply holds a part of what was asked for. Only usn_query_file_regions gives it. Any
+ * other status but USN_SUCCESS is a refusal: it reports 0 bytes and has changed no buffer and no record. With USN_SUCCESS or the
+ * warning the output holds `count` bytes of reply, and its bytes behind them are as they were. Each call gives the first status that
+ * applies, in the order listed with it.
  *
  * The volume record. Only create, delete, finish, post and load store anything in *volume, and of it only the fields that are named
  * with the call. Where such a call refuses or skips, it stores nothing there, not even what it found.
@@ -40,9 +41,10 @@ extern "C" {
 /*
  * The version of this interface. It changes with every change of a struct or a call: a program that was compiled with another one
  * must be compiled again. Since version 2 the library is called lanhduxe, and this header lays out numbers and inputs. Since version 3
- * a journal can be saved to an image and loaded again.
+ * a journal can be saved to an image and loaded again. Since version 4 USN_BUFFER_OVERFLOW is a warning with 40 bytes of reply; it was
+ * a refusal.
  */
-#define LANHDUXE_VERSION 3
+#define LANHDUXE_VERSION 4
 
 /* ---- Statuses, by the numbers of [MS-ERREF] ---- */
 
@@ -60,6 +62,9 @@ extern "C" {
 #define USN_JOURNAL_NOT_ACTIVE         0xC00002B8u
 #define USN_JOURNAL_ENTRY_DELETED      0xC00002CFu
 
+/* Whether a call with this status was refused. A warning is no refusal. */
+#define USN_IS_REFUSAL(status) ((status) != USN_SUCCESS && (status) != USN_BUFFER_OVERFLOW)
+
 /* ---- States of a journal ---- */
 
 #define USN_STATE_IDLE     0u /* and so is any number but the next two */
@@ -72,6 +77,7 @@ extern "C" {
 #define USN_CAPACITY_MIN   1024u                        /* bytes of a ring, always a multiple of 8 */
 #define USN_CAPACITY_MAX   65536u
 #define USN_READ_ROOM      600u                         /* a read with so many bytes of output has room for any record */
+#define USN_REGIONS_ROOM   64u                          /* a region query with so many bytes of output has room for every region */
 #define USN_POSITION_LIMIT UINT64_C(0x8000000000000000) /* 2^63, the first number that is no position and no Usn */
 #define USN_LIST_MAX       65536u                       /* bytes of a reply that usn_list_reply lists */
 #define USN_IMAGE_TRAILER  32u                          /* bytes of an image behind its records */
@@ -303,9 +309,13 @@ usn_answer usn_read_file(usn_volume volume, usn_file file, uint64_t parent, cons
  * Gives the file's regions (FSCTL_QUERY_FILE_REGIONS): that of valid data, and the rest of the file.
  * Input: FileOffset i64 and Length i64, both signed, DesiredUsage u32, 4 bytes that are ignored; or nothing, for the whole file and
  * usage 1. A FileOffset past the end of the file, or at the end of one that is not empty, gives USN_SUCCESS with 0 bytes.
+ * Reply: Flags 0, the number of regions, the number of those given, 0, u32 each; then for each one given its offset u64, length u64,
+ * usage u32 and 0 u32.
+ * USN_BUFFER_OVERFLOW, a warning, where two regions are due and the output is below USN_REGIONS_ROOM: the reply is 40 bytes, with the
+ * numbers 2 and 1 and the first region. A query for what is behind that region gives the second, with USN_SUCCESS.
  * INVALID_DEVICE_REQUEST without support; FILE_CORRUPT_ERROR for a wrong eof or valid; BUFFER_TOO_SMALL for 1 to 23 bytes of input;
  * INVALID_PARAMETER for a Length that is not above 0, a negative FileOffset, an end past 2^63 - 1, or a usage without flag 1;
- * BUFFER_TOO_SMALL below 40 bytes of output; BUFFER_OVERFLOW where a second region is due and the output is below 64.
+ * BUFFER_TOO_SMALL below 40 bytes of output.
  */
 usn_answer usn_query_file_regions(usn_volume volume, usn_file file, const uint8_t *input, size_t input_size,
                                   uint8_t *output, size_t output_size);

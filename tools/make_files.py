@@ -37,9 +37,10 @@ def regions(support, eof, vdl, size, offset, length, usage, room):
         found = [(offset, min(vdl - offset, length), usage)]
         if vdl < eof and found[0][1] < length:
             found.append((vdl, min(length - found[0][1], eof - vdl), 0))
+    given, status = found, SUCCESS
     if len(found) == 2 and room < 64:
-        return BUFFER_OVERFLOW, b""
-    return SUCCESS, struct.pack("<IIII", 0, len(found), len(found), 0) + b"".join(struct.pack("<QQII", *r, 0) for r in found)
+        given, status = found[:1], BUFFER_OVERFLOW
+    return status, struct.pack("<IIII", 0, len(found), len(given), 0) + b"".join(struct.pack("<QQII", *r, 0) for r in given)
 
 
 def reparse(reparse, points, tag, data, room):

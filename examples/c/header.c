@@ -1,6 +1,6 @@
 /*
- * What the header has itself: its functions, byte for byte, and its states and limits, tried on the library with the last number that
- * is taken and the first that is not. Built as C and as C++.
+ * What the header has itself: its functions, byte for byte, which statuses are refusals, and its states and limits, tried on the library
+ * with the last number that is taken and the first that is not. Built as C and as C++.
  */
 #include <stdio.h>
 #include <string.h>
@@ -93,6 +93,20 @@ static void try_images(void)
     TRY(usn_load_journal(&volume, ring, sizeof ring, image, saved.count, 8) == USN_SUCCESS && volume.state == USN_STATE_ACTIVE);
 }
 
+static void try_regions(void)
+{
+    uint8_t output[USN_REGIONS_ROOM];
+    usn_volume volume = { 0, 1, 0, 0, 0, USN_STATE_IDLE, 0, 0, 0, 0 };
+    usn_file file = { 0, 0, 100, 60, 0, 0, { 0 } };
+    usn_answer whole = usn_query_file_regions(volume, file, NULL, 0, output, USN_REGIONS_ROOM);
+    usn_answer part = usn_query_file_regions(volume, file, NULL, 0, output, USN_REGIONS_ROOM - 1);
+    usn_answer none = usn_query_file_regions(volume, file, NULL, 0, output, 39);
+
+    TRY(whole.status == USN_SUCCESS && !USN_IS_REFUSAL(whole.status) && whole.count == USN_REGIONS_ROOM);
+    TRY(part.status == USN_BUFFER_OVERFLOW && !USN_IS_REFUSAL(part.status) && part.count == 40);
+    TRY(none.status == USN_BUFFER_TOO_SMALL && USN_IS_REFUSAL(none.status) && none.count == 0);
+}
+
 static void try_listing(void)
 {
     static uint8_t reply[USN_LIST_MAX + 1], text[USN_LIST_ROOM(sizeof reply)];
@@ -106,6 +120,7 @@ int main(void)
     try_functions();
     try_states_and_limits();
     try_images();
+    try_regions();
     try_listing();
     return failed;
 }

@@ -56,6 +56,30 @@ static void read_changes(const usn_volume *volume, const uint8_t *ring)
     }
 }
 
+/* Prints the regions of the whole file, with room for one at a time: as long as there are more, it asks for what is behind. */
+static void ask_regions(const usn_volume *volume, usn_file file)
+{
+    uint8_t input[24] = { 0 }, output[40];
+    uint64_t offset = 0, length = INT64_MAX;
+    usn_answer answer;
+    do {
+        usn_put_number(input, offset, 8);
+        usn_put_number(input + 8, length, 8);
+        usn_put_number(input + 16, 1, 4);
+        answer = usn_query_file_regions(*volume, file, input, sizeof input, output, sizeof output);
+        if (USN_IS_REFUSAL(answer.status))
+            break;
+        if (answer.count > 0) {
+            uint64_t size = usn_get_number(output + 24, 8);
+            printf("region at %" PRIu64 ", length %" PRIu64 ", usage %" PRIu64 "\n", usn_get_number(output + 16, 8), size,
+                   usn_get_number(output + 32, 4));
+            offset += size;
+            length -= size;
+        }
+    } while (answer.status == USN_BUFFER_OVERFLOW);
+    expect("usn_query_file_regions", answer.status);
+}
+
 /* The controls on the first file: 60 of its 100 bytes are valid, it has two links, and it is a reparse point. */
 static void ask_file(const usn_volume *volume)
 {
@@ -71,11 +95,7 @@ static void ask_file(const usn_volume *volume)
     printf("file %" PRIu64 " in %" PRIu64 ", Usn %" PRIu64 ", name of %" PRIu64 " bytes, first %c\n",
            record.file, record.parent, record.usn, record.length, output[record.name]);
 
-    answer = usn_query_file_regions(*volume, file, NULL, 0, output, sizeof output);
-    expect("usn_query_file_regions", answer.status);
-    for (size_t at = 16; at < answer.count; at += 24)
-        printf("region at %" PRIu64 ", length %" PRIu64 ", usage %" PRIu64 "\n", usn_get_number(output + at, 8),
-               usn_get_number(output + at + 8, 8), usn_get_number(output + at + 16, 4));
+    ask_regions(volume, file);
 
     answer = usn_get_reparse_point(*volume, file, data, sizeof data, output, sizeof output);
     expect("usn_get_reparse_point", answer.status);

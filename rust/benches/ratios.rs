@@ -394,12 +394,13 @@ fn file_reads() -> Timed {
     )
 }
 
-fn regions() -> Timed {
+/// All of a file with two regions, whose reply into `room` bytes has `count`.
+fn regions(room: usize, count: usize) -> Timed {
     let d = disk();
-    let (mut a, mut b) = ([0; 64], [0; 64]);
+    let (mut a, mut b) = (vec![0; room], vec![0; room]);
     let x = d.library.query_file_regions(&d.file, &[], &mut a);
     let y = model::query_file_regions(&d.model, &d.same, &[], &mut b);
-    assert!((x.status.number(), x.count) == y && a == b && x.count == 64);
+    assert!((x.status.number(), x.count) == y && a == b && x.count == count);
     measure(
         || {
             black_box(
@@ -488,7 +489,8 @@ fn main() {
         );
     }
     row("file read, two links", &file_reads());
-    row("file regions, two regions", &regions());
+    row("file regions, two regions", &regions(64, 64));
+    row("file regions, one of two", &regions(63, 40));
     row("reparse point of 16 KiB", &reparse_points());
 
     heading("post on a full ring, name of 2 bytes, capacity");

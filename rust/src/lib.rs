@@ -4,9 +4,11 @@
 //! caller owns a [`Volume`] record, the journal's ring and every other buffer,
 //! and lends them for the length of one call.
 //!
-//! Each call gives one [`Status`]. A status other than [`Status::Success`] is a
-//! refusal: the count is zero, and no buffer and no record has changed. After a
-//! success the bytes of an output buffer past the count are as they were.
+//! Each call gives one [`Status`]. [`Status::BufferOverflow`] is a warning: the
+//! reply holds a part of what was asked for. Every other status but
+//! [`Status::Success`] is a refusal: the count is zero, and no buffer and no
+//! record has changed. The bytes of an output buffer past the count are as they
+//! were.
 //!
 //! Positions, sizes and times are 64-bit patterns in `u64`; where a layout has a
 //! signed number, a pattern of 2^63 or above is negative.
@@ -240,9 +242,10 @@ const _: () = {
 #[derive(Clone, Copy, Debug, PartialEq, Eq, PartialOrd, Ord, Hash)]
 #[repr(u32)]
 pub enum Status {
-    /// `STATUS_SUCCESS`: done. The only status with a count above zero.
+    /// `STATUS_SUCCESS`: done.
     Success = 0,
-    /// `STATUS_BUFFER_OVERFLOW`: a second region is due and has no room.
+    /// `STATUS_BUFFER_OVERFLOW`, a warning: a second region is due and has no
+    /// room; the first is in the reply.
     BufferOverflow = 0x8000_0005,
     /// `STATUS_INVALID_PARAMETER`: an argument or an input field is wrong.
     InvalidParameter = 0xC000_000D,
@@ -291,6 +294,12 @@ impl Status {
     /// The NTSTATUS number.
     pub const fn number(self) -> u32 {
         self as u32
+    }
+
+    /// Whether a call with this status was refused: it reported no bytes and
+    /// changed nothing. A warning is no refusal.
+    pub const fn is_refusal(self) -> bool {
+        !matches!(self, Status::Success | Status::BufferOverflow)
     }
 
     /// The status with a number that the library gave back.
@@ -422,7 +431,7 @@ impl Answer {
         let status = Status::of(answer.status);
         let count = answer.count as usize;
         assert!(
-            count <= room && (count == 0 || status == Status::Success),
+            count <= room && (count == 0 || !status.is_refusal()),
             "the library reported {count} bytes with {status} for an output of {room}"
         );
         Answer { status, count }
@@ -656,13 +665,17 @@ impl Volume {
     /// one or two regions of 24 bytes, or nothing for an offset at or behind the
     /// file's end.
     ///
+    /// If a second region is due and the output is below 64 bytes, the status is
+    /// the warning [`Status::BufferOverflow`], and the reply is 40 bytes with a
+    /// total count of 2, an entry count of 1 and the first region. A call for
+    /// what is behind that region gives the second.
+    ///
     /// Refusals, in order: [`Status::InvalidDeviceRequest`] without support;
     /// [`Status::FileCorruptError`] for a wrong `eof` or `valid`;
     /// [`Status::BufferTooSmall`] for an input of 1 to 23 bytes;
     /// [`Status::InvalidParameter`] for a length of 0 or below, a range that
     /// passes 2^63 - 1, or a usage without flag 1; [`Status::BufferTooSmall`]
-    /// below 40 bytes of output; [`Status::BufferOverflow`] if a second region is
-    /// due and the output is below 64 bytes.
+    /// below 40 bytes of output.
     #[inline]
     pub fn query_file_regions(&self, file: &FileRecord, input: &[u8], output: &mut [u8]) -> Answer {
         // SAFETY: as in `read_journal`.

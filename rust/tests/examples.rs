@@ -27,6 +27,7 @@ fn success(count: usize) -> Answer {
 }
 
 fn refused(status: Status) -> Answer {
+    assert!(status.is_refusal(), "{status}");
     Answer { status, count: 0 }
 }
 
@@ -59,6 +60,14 @@ fn the_statuses_have_their_numbers_and_names() {
     for (status, (number, name)) in Status::ALL.iter().zip(table) {
         assert_eq!(status.number(), number);
         assert_eq!(status.to_string(), name);
+    }
+}
+
+#[test]
+fn all_but_success_and_the_warning_are_refusals() {
+    let replies = [Status::Success, Status::BufferOverflow];
+    for status in Status::ALL {
+        assert_eq!(status.is_refusal(), !replies.contains(&status), "{status}");
     }
 }
 
@@ -212,10 +221,6 @@ fn file_regions() {
 
     let answer = volume.query_file_regions(&file, &[], &mut output);
     assert_eq!(regions(&output, answer), [(0, 60, 1), (60, 40, 0)]);
-    assert_eq!(
-        volume.query_file_regions(&file, &[], &mut output[..63]),
-        refused(Status::BufferOverflow)
-    );
     let answer = volume.query_file_regions(&file, &region_input(50, 20, 1), &mut output);
     assert_eq!(regions(&output, answer), [(50, 10, 1), (60, 10, 0)]);
     let answer = volume.query_file_regions(&file, &region_input(50, 10, 3), &mut output);
@@ -233,6 +238,39 @@ fn file_regions() {
     let answer = volume.query_file_regions(&empty, &[], &mut output);
     assert_eq!(answer.count, 40);
     assert_eq!(regions(&output, answer), [(0, 0, 0)]);
+}
+
+/// The first of two regions, (0, 60, 1), behind the counts: 2 in all, 1 given.
+#[rustfmt::skip]
+const FIRST_OF_TWO: [u8; 40] = [
+    0, 0, 0, 0, 2, 0, 0, 0, 1, 0, 0, 0, 0, 0, 0, 0,
+    0, 0, 0, 0, 0, 0, 0, 0, 60, 0, 0, 0, 0, 0, 0, 0,
+    1, 0, 0, 0, 0, 0, 0, 0,
+];
+
+#[test]
+fn file_regions_without_room_for_the_second() {
+    let file = FileRecord {
+        eof: 100,
+        valid: 60,
+        ..FileRecord::default()
+    };
+    let mut output = [0xEE; 64];
+    let warned = Answer {
+        status: Status::BufferOverflow,
+        count: 40,
+    };
+    assert_eq!(
+        volume(1024).query_file_regions(&file, &[], &mut output[..63]),
+        warned
+    );
+    assert_eq!(output[..40], FIRST_OF_TWO);
+    assert_eq!(output[40..], [0xEE; 24]);
+
+    // A call for what is behind the first region gives the second.
+    let rest = region_input(60, (1 << 63) - 61, 1);
+    let answer = volume(1024).query_file_regions(&file, &rest, &mut output[..63]);
+    assert_eq!(regions(&output, answer), [(60, 40, 0)]);
 }
 
 #[test]

@@ -1,12 +1,16 @@
-//! The three controls on a file: the library against the model.
+//! The three controls on a file: the library against the model, and region
+//! queries with little room.
 
 mod common;
 
 use common::{check, expected, model_file, model_links, model_volume};
-use common::{Counts, Hex, Lent, Rng, NEGATIVE};
-use lanhduxe::{FileRecord, Link, Volume};
+use common::{Counts, Hex, Lent, Rng, GUARD, NEGATIVE};
+use lanhduxe::{Answer, FileRecord, Link, Status, Volume};
 
 const CALLS: u64 = 250_000;
+
+/// 2^63 - 1, the largest offset.
+const TOP: u64 = NEGATIVE - 1;
 
 /// A volume record for the file controls: the journal's part is of no concern.
 fn volume(rng: &mut Rng) -> Volume {
@@ -206,7 +210,6 @@ fn file_reads_agree_with_the_model() {
 #[test]
 fn region_queries_agree_with_the_model() {
     const TEST: &str = "regions";
-    const TOP: u64 = NEGATIVE - 1;
     let mut rng = Rng::new(TEST);
     let mut counts = Counts::new(TEST);
     for index in 0..CALLS {
@@ -325,6 +328,214 @@ fn region_queries_agree_with_the_model() {
         );
     }
     counts.finish(&expected::REGIONS, 200_000);
+}
+
+/// A region, or a range that is asked for: offset, length and usage.
+type Region = (u64, u64, u32);
+
+/// The range that an empty input asks for.
+const WHOLE: Region = (0, TOP, 1);
+
+/// A volume that supports region queries and nothing else.
+fn regions_only() -> Volume {
+    Volume {
+        regions: 1,
+        ..Volume::default()
+    }
+}
+
+/// A file record with these lengths.
+fn sized(eof: u64, valid: u64) -> FileRecord {
+    FileRecord {
+        eof,
+        valid,
+        ..FileRecord::default()
+    }
+}
+
+/// The input that asks for a range; the empty one for the whole file.
+fn asking(range: Region) -> Vec<u8> {
+    let mut input = Vec::new();
+    if range == WHOLE {
+        return input;
+    }
+    let (offset, length, usage) = range;
+    input.extend(offset.to_le_bytes());
+    input.extend(length.to_le_bytes());
+    input.extend(usage.to_le_bytes());
+    input.extend([0xDD; 4]);
+    input
+}
+
+/// The library's answer and reply. What lies behind the reply must be as it was.
+fn query(file: &FileRecord, input: &[u8], room: usize) -> (Answer, Vec<u8>) {
+    let mut output = vec![0xEE; room + GUARD];
+    let answer = regions_only().query_file_regions(file, input, &mut output[..room]);
+    let behind = &output[answer.count..];
+    assert!(behind.iter().all(|byte| *byte == 0xEE), "{file:?} {room}");
+    output.truncate(answer.count);
+    (answer, output)
+}
+
+/// The bytes of a reply with some regions out of `total`.
+fn lay_out_regions(total: u32, regions: &[Region]) -> Vec<u8> {
+    let mut reply = Vec::new();
+    for word in [0, total, regions.len() as u32, 0] {
+        reply.extend(word.to_le_bytes());
+    }
+    for (offset, length, usage) in regions {
+        reply.extend(offset.to_le_bytes());
+        reply.extend(length.to_le_bytes());
+        reply.extend(usage.to_le_bytes());
+        reply.extend([0; 4]);
+    }
+    reply
+}
+
+/// The regions in a reply, as many as its entry count says.
+fn regions_in(reply: &[u8]) -> Vec<Region> {
+    if reply.is_empty() {
+        return Vec::new();
+    }
+    let word = |at: usize| u32::from_le_bytes(reply[at..at + 4].try_into().expect("four bytes"));
+    let long = |at: usize| u64::from_le_bytes(reply[at..at + 8].try_into().expect("eight bytes"));
+    let entries = word(8) as usize;
+    (0..entries)
+        .map(|entry| 16 + 24 * entry)
+        .map(|at| (long(at), long(at + 8), word(at + 16)))
+        .collect()
+}
+
+#[test]
+fn regions_at_the_edges_of_the_room() {
+    use Status::{BufferOverflow, BufferTooSmall, Success};
+    const ROOMS: [usize; 4] = [39, 40, 63, 64];
+    const LAST: u64 = TOP - 1;
+    let (small, warned) = ((BufferTooSmall, 0), (BufferOverflow, 40));
+    let none = [small, (Success, 0), (Success, 0), (Success, 0)];
+    let one = [small, (Success, 40), (Success, 40), (Success, 40)];
+    let two = [small, warned, warned, (Success, 64)];
+    // Eof, Vdl, the range, the answer for each room, the regions due.
+    type Case = (u64, u64, Region, [(Status, usize); 4], &'static [Region]);
+    let table: [Case; 20] = [
+        // A second region is due.
+        (100, 60, WHOLE, two, &[(0, 60, 1), (60, 40, 0)]),
+        (100, 60, (0, 61, 1), two, &[(0, 60, 1), (60, 1, 0)]),
+        (100, 60, (50, 20, 3), two, &[(50, 10, 3), (60, 10, 0)]),
+        (100, 60, (59, 99, 1), two, &[(59, 1, 1), (60, 40, 0)]),
+        (100, 99, (98, 2, 1), two, &[(98, 1, 1), (99, 1, 0)]),
+        (2, 1, (0, 2, 1), two, &[(0, 1, 1), (1, 1, 0)]),
+        (TOP, 1, WHOLE, two, &[(0, 1, 1), (1, LAST, 0)]),
+        (TOP, LAST, WHOLE, two, &[(0, LAST, 1), (LAST, 1, 0)]),
+        // All of the file is valid data.
+        (100, 100, WHOLE, one, &[(0, 100, 1)]),
+        (100, 100, (99, 50, 3), one, &[(99, 1, 3)]),
+        (TOP, TOP, WHOLE, one, &[(0, TOP, 1)]),
+        // The range ends with the valid data.
+        (100, 60, (0, 60, 1), one, &[(0, 60, 1)]),
+        (100, 60, (50, 10, 3), one, &[(50, 10, 3)]),
+        // The range begins where the valid data ends or behind it.
+        (100, 60, (60, 99, 3), one, &[(60, 40, 0)]),
+        (100, 60, (99, 1, 1), one, &[(99, 1, 0)]),
+        (100, 0, WHOLE, one, &[(0, 100, 0)]),
+        // The file is empty.
+        (0, 0, WHOLE, one, &[(0, 0, 0)]),
+        // The range begins at the end of the file or behind it.
+        (100, 60, (100, 1, 1), none, &[]),
+        (100, 60, (101, 1, 1), none, &[]),
+        (0, 0, (1, 1, 1), none, &[]),
+    ];
+    for (eof, valid, range, answers, due) in table {
+        for (room, (status, count)) in ROOMS.into_iter().zip(answers) {
+            let (answer, reply) = query(&sized(eof, valid), &asking(range), room);
+            let expected = match count {
+                0 => Vec::new(),
+                40 => lay_out_regions(due.len() as u32, &due[..1]),
+                _ => lay_out_regions(due.len() as u32, due),
+            };
+            assert_eq!(
+                (answer, reply),
+                (Answer { status, count }, expected),
+                "Eof {eof}, Vdl {valid}, range {range:?}, room {room}"
+            );
+        }
+    }
+}
+
+/// Asks for a range of a file with `room` bytes of output. As long as the answer
+/// is the warning, asks again for what is behind the last region. Gives the
+/// regions and the number of calls.
+fn ask_to_the_end(file: &FileRecord, range: Region, room: usize) -> (Vec<Region>, usize) {
+    let mut regions = Vec::new();
+    let mut rest = range;
+    // Two regions at most are due, and a call gives one at least.
+    for calls in 1..=2 {
+        let (answer, reply) = query(file, &asking(rest), room);
+        regions.extend(regions_in(&reply));
+        if answer.status == Status::Success {
+            return (regions, calls);
+        }
+        assert_eq!(answer.status, Status::BufferOverflow);
+        let (offset, length, usage) = rest;
+        let last: &Region = regions.last().expect("a warning comes with a region");
+        let next = last.0 + last.1;
+        rest = (next, length - (next - offset), usage);
+        assert!(rest.1 > 0, "{file:?} {range:?}: nothing is left to ask for");
+    }
+    panic!("{file:?} {range:?}: two calls with {room} bytes did not reach the end");
+}
+
+/// The regions that the model gives in one call with room for two.
+fn regions_by_the_model(file: &FileRecord, range: Region) -> Vec<Region> {
+    let (volume, file) = (model_volume(&regions_only()), model_file(file));
+    let mut output = [0; 64];
+    let (status, count) = model::query_file_regions(&volume, &file, &asking(range), &mut output);
+    assert_eq!(status, model::status::SUCCESS);
+    regions_in(&output[..count])
+}
+
+#[test]
+fn asking_again_ends() {
+    let mut cases = Vec::new();
+    for eof in 0..=12 {
+        for valid in 0..=eof {
+            let file = sized(eof, valid);
+            cases.push((file, WHOLE));
+            for offset in 0..=eof + 2 {
+                cases.extend((1..=eof + 2).map(|length| (file, (offset, length, 3))));
+            }
+        }
+    }
+    for eof in [TOP - 1, TOP] {
+        for valid in [0, 1, TOP / 2, eof - 1, eof] {
+            let file = sized(eof, valid);
+            cases.push((file, WHOLE));
+            for offset in [0, 1, TOP / 2 - 1, TOP / 2, TOP - 3, TOP - 2] {
+                let lengths = [1, 2, TOP - 1 - offset, TOP - offset];
+                cases.extend(lengths.map(|length| (file, (offset, length, 3))));
+            }
+        }
+    }
+
+    // The model says in one call with 64 bytes what is due. The last room is the
+    // same call by the library.
+    for room in 40..=64 {
+        let mut twice = 0;
+        for (file, range) in &cases {
+            let due = regions_by_the_model(file, *range);
+            let (regions, calls) = ask_to_the_end(file, *range, room);
+            assert_eq!(regions, due, "{file:?} {range:?} {room}");
+            // A second call is needed just where a second region had no room.
+            let expected = if room < 64 && due.len() == 2 { 2 } else { 1 };
+            assert_eq!(calls, expected, "{file:?} {range:?} {room}");
+            twice += usize::from(calls == 2);
+        }
+        println!(
+            "room {room}: {twice} of {} ranges took two calls",
+            cases.len()
+        );
+        assert_eq!(twice > 0, room < 64);
+    }
 }
 
 #[test]

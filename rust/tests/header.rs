@@ -10,7 +10,7 @@ const WRAPPER: &str = "rust/src/lib.rs";
 const LIBRARY: &str = "crates/lanhduxe/src/lib.rt";
 
 /// `LANHDUXE_VERSION`, and the number that `fingerprint` makes of the structs and calls of that version.
-const VERSION: (&str, u64) = ("3", 0x70D6_9326_4723_645A);
+const VERSION: (&str, u64) = ("4", 0x70D6_9326_4723_645A);
 
 /// The calls of the interface.
 const CALLS: usize = 13;

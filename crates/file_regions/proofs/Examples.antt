@@ -10,6 +10,7 @@ use Rattle.status.specs.Reply.{Reply, refuse, give, answer}
 use Rattle.volume.specs.declared.Volume.{Volume}
 use Rattle.file_record.specs.declared.FileRecord.{FileRecord}
 use Rattle.file_regions.specs.Regions.{askedOf, goodSizes, askedCheck, regionsCheck, firstRegion, secondDue, secondRegion, isOutside, listBytes, answerRegions, regionsAnswer, regionsReply}
+use Rattle.file_regions.specs.Again.{written, inputFor, behind, nextReply}
 
 -- a volume that supports the control
 abbrev pub volume : Volume
@@ -35,8 +36,8 @@ abbrev pub asks : ℕ → ℕ → ℕ → List ℕ
 asks offset length usage = eight offset ++ (eight length ++ (four usage ++ four 0))
 
 -- Flags, both counts and Reserved
-abbrev pub counts : ℕ → List ℕ
-counts n = four 0 ++ (four n ++ (four n ++ four 0))
+abbrev pub counts : ℕ → ℕ → List ℕ
+counts total given = four 0 ++ (four total ++ (four given ++ four 0))
 
 -- Eof, Vdl, the input, the room, the reply, and how many bytes it counts
 pub record Example : Type 0 where
@@ -52,12 +53,12 @@ row eof vdl input room reply count = record { eof = eof; vdl = vdl; input = inpu
 
 abbrev pub examples : List Example
 examples =
-    row 100 60 [] 64 (give Success (counts 2 ++ (asks 0 60 1 ++ asks 60 40 0))) 64
-    ∷ row 100 60 [] 63 (refuse BufferOverflow) 0
-    ∷ row 100 60 (asks 50 20 1) 64 (give Success (counts 2 ++ (asks 50 10 1 ++ asks 60 10 0))) 64
-    ∷ row 100 60 (asks 50 10 3) 64 (give Success (counts 1 ++ asks 50 10 3)) 40
+    row 100 60 [] 64 (give Success (counts 2 2 ++ (asks 0 60 1 ++ asks 60 40 0))) 64
+    ∷ row 100 60 [] 63 (give BufferOverflow (counts 2 1 ++ asks 0 60 1)) 40
+    ∷ row 100 60 (asks 50 20 1) 64 (give Success (counts 2 2 ++ (asks 50 10 1 ++ asks 60 10 0))) 64
+    ∷ row 100 60 (asks 50 10 3) 64 (give Success (counts 1 1 ++ asks 50 10 3)) 40
     ∷ row 100 60 (asks 100 1 1) 64 (give Success []) 0
-    ∷ row 0 0 [] 40 (give Success (counts 1 ++ asks 0 0 0)) 40
+    ∷ row 0 0 [] 40 (give Success (counts 1 1 ++ asks 0 0 0)) 40
     ∷ row 100 60 (eight 1 ++ (most ++ (four 1 ++ four 0))) 64 (refuse InvalidParameter) 0
     ∷ []
 
@@ -68,3 +69,12 @@ replyTo e = regionsReply volume (file (e .eof) (e .vdl)) (e .input) (e .room)
 pub regions-right : map (λ (e : Example). row (e .eof) (e .vdl) (e .input) (e .room) (replyTo e) (answer (replyTo e) .count)) examples ≡ examples
 unfolding le unle numberAt encode askedOf goodSizes askedCheck regionsCheck firstRegion secondDue secondRegion isOutside listBytes answerRegions regionsAnswer regionsReply
 regions-right = refl
+
+-- a warning, what is asked then, and the reply to that
+pub again-right :
+    (regionsReply volume (file 100 60) [] 40 ≡ give BufferOverflow (counts 2 1 ++ asks 0 60 1))
+    × (inputFor (behind (askedOf []) (written (regionsReply volume (file 100 60) [] 40)))
+    ≡ eight 60 ++ ((0xC3 ∷ 0xFF ∷ 0xFF ∷ 0xFF ∷ 0xFF ∷ 0xFF ∷ 0xFF ∷ 0x7F ∷ []) ++ (four 1 ++ four 0)))
+    × (nextReply volume (file 100 60) [] 40 ≡ give Success (counts 1 1 ++ asks 60 40 0))
+unfolding le unle numberAt encode askedOf goodSizes askedCheck regionsCheck firstRegion secondDue secondRegion isOutside listBytes answerRegions regionsAnswer regionsReply
+again-right = (refl, refl, refl)

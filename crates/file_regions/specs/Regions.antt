@@ -4,12 +4,12 @@ use mathlib.Core.List.{List, [], _∷_, _++_}
 use mathlib.Core.Option.{Option}
 use Prim.Native.Nat.{ℕ, _+_, _-_, _*_, _%_, _^_, min}
 use lib.Dec.{leb, ltb, eqb}
-use lib.ListN.{length}
+use lib.ListN.{length, take}
 use Rattle.le.specs.Numbers.{numberAt, encode}
 use Rattle.status.specs.declared.Status.{Status}
 use Rattle.status.specs.declared.Status.the-variants.{Success, BufferOverflow, InvalidParameter, InvalidDeviceRequest, BufferTooSmall, FileCorruptError}
 use Rattle.status.specs.Check.{unless, else}
-use Rattle.status.specs.Reply.{Reply, refuse, give, guard}
+use Rattle.status.specs.Reply.{Reply, give, guard}
 use Rattle.volume.specs.declared.Volume.{Volume}
 use Rattle.volume.specs.State.{supported}
 use Rattle.file_record.specs.declared.FileRecord.{FileRecord}
@@ -67,9 +67,9 @@ regionsOf eof vdl a = firstRegion eof vdl a ∷ cond (secondDue eof vdl a) (seco
 unfoldable pub isOutside : ℕ → ℕ → Bool
 isOutside eof offset = ltb eof offset || (eqb offset eof && ltb 0 eof)
 
--- Flags 0, both counts, Reserved 0
-abbrev pub regionsHeader : ℕ → List ℕ
-regionsHeader n = encode (4 ∷ 4 ∷ 4 ∷ 4 ∷ []) (0 ∷ n ∷ n ∷ 0 ∷ [])
+-- Flags 0, how many regions there are, how many are given, Reserved 0
+abbrev pub regionsHeader : ℕ → ℕ → List ℕ
+regionsHeader total given = encode (4 ∷ 4 ∷ 4 ∷ 4 ∷ []) (0 ∷ total ∷ given ∷ 0 ∷ [])
 
 abbrev pub regionBytes : Region → List ℕ
 regionBytes r = encode (8 ∷ 8 ∷ 4 ∷ 4 ∷ []) (r .offset ∷ r .length ∷ r .usage ∷ 0 ∷ [])
@@ -78,9 +78,15 @@ unfoldable pub listBytes : List Region → List ℕ
 listBytes [] = []
 listBytes (r ∷ rs) = regionBytes r ++ listBytes rs
 
--- all regions, or none where they do not fit
+-- the reply that gives some regions of `total`
+abbrev pub regionsBytes : ℕ → List Region → List ℕ
+regionsBytes total given = regionsHeader total (length given) ++ listBytes given
+
+-- all regions; where they do not fit, a warning with the first alone
 unfoldable pub answerRegions : List Region → ℕ → Reply
-answerRegions rs room = cond (leb (16 + 24 * length rs) room) (give Success (regionsHeader (length rs) ++ listBytes rs)) (refuse BufferOverflow)
+answerRegions rs room =
+    let n = length rs in
+    cond (leb (16 + 24 * n) room) (give Success (regionsBytes n rs)) (give BufferOverflow (regionsBytes n (take 1 rs)))
 
 unfoldable pub regionsAnswer : FileRecord → Asked → ℕ → Reply
 regionsAnswer f a room = cond (isOutside (f .eof) (a .offset)) (give Success []) (answerRegions (regionsOf (f .eof) (f .valid) a) room)

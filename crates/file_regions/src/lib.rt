@@ -170,12 +170,12 @@ fn second_region(eof: u64, vdl: u64, a: Asked, first: Region) -> Region
 }
 
 // Writes Flags, both counts and Reserved.
-fn put_header(out: &mut [u8], n: u64)
+fn put_header(out: &mut [u8], total: u64, given: u64)
     requires { ⌜ 16 ≤ length (now out) ⌝ }
-    ensures { λ _. ⌜ now (out .exit) ≡ regionsHeader n ++ drop 16 (now (out .entry)) ⌝ }
+    ensures { λ _. ⌜ now (out .exit) ≡ regionsHeader total given ++ drop 16 (now (out .entry)) ⌝ }
 {
-    le::put_two(out, 4, 0, n);
-    le::put_two(&mut out[8..], 4, n, 0);
+    le::put_two(out, 4, 0, total);
+    le::put_two(&mut out[8..], 4, given, 0);
 }
 
 // Writes one region.
@@ -185,6 +185,15 @@ fn put_region(out: &mut [u8], r: Region)
 {
     le::put_two(out, 8, r.offset, r.length);
     le::put_two(&mut out[16..], 4, r.usage as u64, 0);
+}
+
+// Writes the front of a reply: the header and the first region.
+fn put_front(out: &mut [u8], total: u64, given: u64, first: Region)
+    requires { ⌜ 40 ≤ length (now out) ⌝ }
+    ensures { λ _. ⌜ now (out .exit) ≡ (regionsHeader total given ++ regionBytes first) ++ drop 40 (now (out .entry)) ⌝ }
+{
+    put_header(out, total, given);
+    put_region(&mut out[16..], first);
 }
 
 // Replies to a call that has passed its checks.
@@ -197,25 +206,20 @@ fn reply_regions(f: FileRecord, a: Asked, output: &mut [u8]) -> Answer
     }
     let first = first_region(f.eof, f.valid, a);
     if !second_due(f.eof, f.valid, a, first) {
-        put_header(output, 1);
-        put_region(&mut output[16..], first);
+        put_front(output, 1, 1, first);
         return status::success(40);
     }
+    let second = second_region(f.eof, f.valid, a, first);
     if output.len() < 64 {
-        return status::refused(Status::BufferOverflow);
+        put_front(output, 2, 1, first);
+        return Answer {
+            status: Status::BufferOverflow,
+            count: 40,
+        };
     }
-    put_two_regions(output, first, second_region(f.eof, f.valid, a, first));
+    put_front(output, 2, 2, first);
+    put_region(&mut output[40..], second);
     status::success(64)
-}
-
-// Writes a reply of two regions.
-fn put_two_regions(out: &mut [u8], first: Region, second: Region)
-    requires { ⌜ 64 ≤ length (now out) ⌝ }
-    ensures { λ _. ⌜ now (out .exit) ≡ (regionsHeader 2 ++ (regionBytes first ++ regionBytes second)) ++ drop 64 (now (out .entry)) ⌝ }
-{
-    put_header(out, 2);
-    put_region(&mut out[16..], first);
-    put_region(&mut out[40..], second);
 }
 
 // Queries the regions of a file.

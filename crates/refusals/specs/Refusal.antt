@@ -1,11 +1,11 @@
--- A refusal reports no bytes and changes nothing, whatever control or call it comes from.
+-- A refusal reports no bytes and changes nothing, whatever control or call it comes from; and which status is none.
 use mathlib.Core.Path.{_≡_}
-use mathlib.Core.Bool.{Bool, true, not}
+use mathlib.Core.Bool.{Bool, true, false, not, _||_}
 use mathlib.Core.List.{List}
-use Prim.Native.Nat.{ℕ}
+use Prim.Native.Nat.{ℕ, _<_}
 use lib.Dec.{eqb}
 use Rattle.status.specs.declared.Status.{Status}
-use Rattle.status.specs.declared.Status.the-variants.{Success}
+use Rattle.status.specs.declared.Status.the-variants.{Success, BufferOverflow}
 use Rattle.status.specs.Number.{number}
 use Rattle.status.specs.Reply.{Reply, answer, after}
 use Rattle.usn_record.specs.declared.Version.{Version}
@@ -24,9 +24,13 @@ use Rattle.journal_post.specs.Post.{postUsn}
 use Rattle.journal_post.specs.Posts.{Journal}
 use Rattle.history.specs.Calls.{Call, create, post, read, delete, finish, save, load, statusOf, next}
 
--- all statuses but SUCCESS
+-- the reply holds a part of what was asked for
+abbrev pub isWarning : Status → Bool
+isWarning x = eqb (number x) (number BufferOverflow)
+
+-- all statuses but SUCCESS and the warning
 abbrev pub isRefusal : Status → Bool
-isRefusal x = not (eqb (number x) (number Success))
+isRefusal x = not (eqb (number x) (number Success) || isWarning x)
 
 -- ---- what replies with bytes
 
@@ -79,9 +83,22 @@ usnAfter j (load s id) usn = usn
 
 -- ---- the promise
 
+-- a region query that had no room for two regions, and gave one
+pub record Warned (c : Control) (room : ℕ) : Type 0 where
+  pub volume : Volume
+  pub file : FileRecord
+  pub input : List ℕ
+  pub query : c ≡ queryRegions volume file input
+  pub short : room < 64
+  pub count : answer (replyOf c room) .count ≡ 40
+
 pub record Refusals : Type 0 where
   -- a control that refuses reports no bytes and leaves its output
   pub controls : (c : Control) (room : ℕ) → isRefusal (answer (replyOf c room) .status) ≡ true
       → (answer (replyOf c room) .count ≡ 0) × ((out : List ℕ) → after (replyOf c room) out ≡ out)
+  -- only the region query warns
+  pub warnings : (c : Control) (room : ℕ) → isWarning (answer (replyOf c room) .status) ≡ true → Warned c room
   -- a call that refuses leaves the volume record, the ring and the file's Usn
   pub calls : (j : Journal) (c : Call) (usn : ℕ) → isRefusal (statusOf j c) ≡ true → (next j c ≡ j) × (usnAfter j c usn ≡ usn)
+  -- and none of these warns
+  pub unwarned : (j : Journal) (c : Call) → isWarning (statusOf j c) ≡ false

@@ -1,13 +1,16 @@
--- What checks that are joined tell, and what they come to.
+-- What checks that are joined tell, what they come to, and what they never come to.
 -- Assumes nothing.
 use mathlib.Core.Path.{_≡_, refl, sym, ap}
-use mathlib.Core.Bool.{Bool, true, false}
+use mathlib.Core.Bool.{Bool, true, false, cond}
 use mathlib.Core.Option.{Option, none, some}
 use Prim.Native.Nat.{ℕ}
 use native.Mathlib.Omega.{arith}
+use lib.Dec.{eqb}
 use Rattle.status.specs.declared.Status.{Status}
+use Rattle.status.specs.declared.Status.the-variants.{Success}
 use Rattle.status.specs.declared.Judged.the-variants.{Passed, Refused}
 use Rattle.status.specs.Check.{unless, else, judged}
+use Rattle.status.specs.Number.{number}
 
 -- neither of two checks applies
 pub else-none : (a b : Option Status) → else a b ≡ none → (a ≡ none) × (b ≡ none)
@@ -31,3 +34,31 @@ told-refused (some y) x e = let q : x ≡ y = cc in ap some (sym q)
 pub told-passed : (k : Option Status) → Passed ≡ judged k → k ≡ none
 told-passed none e = refl
 told-passed (some y) e = let z : _≡_ {A = ℕ} 0 1 = cc in absurd (omega arith)
+
+-- ---- a status that no check gives
+
+-- the status that checks come to, SUCCESS where none applies
+abbrev pub checkStatus : Option Status → Status
+checkStatus none = Success
+checkStatus (some x) = x
+
+pub record Never (x : Status) (k : Option Status) : Type 0 where
+  pub other : eqb (number (checkStatus k)) (number x) ≡ false
+
+module _ {x : Status} where
+  pub never-none : eqb (number Success) (number x) ≡ false → Never x none
+  never-none h = record { other = h }
+
+  pub never-unless : (b : Bool) (y : Status) → eqb (number Success) (number x) ≡ false → eqb (number y) (number x) ≡ false → Never x (unless b y)
+  never-unless true y h k = never-none h
+  never-unless false y h k = record { other = k }
+
+  pub never-else : (a b : Option Status) → Never x a → Never x b → Never x (else a b)
+  never-else none b p q = q
+  never-else (some y) b p q = p
+
+  pub never-cond : (t : Bool) (a b : Option Status) → Never x a → Never x b → Never x (cond t a b)
+  never-cond true a b p q = p
+  never-cond false a b p q = q
+
+pub ruleset nevers = (never-none, never-unless, never-else, never-cond)

@@ -133,11 +133,17 @@ pub fn query_file_regions(
     input: &[u8],
     output: &mut [u8],
 ) -> (u32, usize) {
-    answer(regions(volume, file, input, output))
+    regions(volume, file, input, output).unwrap_or_else(|status| (status, 0))
 }
 
-/// Judges a region query in the listed order and carries it out.
-fn regions(volume: &Volume, file: &File, input: &[u8], output: &mut [u8]) -> Result<usize, u32> {
+/// Judges a region query in the listed order and carries it out. A reply has a
+/// status of its own, for it may come with a warning.
+fn regions(
+    volume: &Volume,
+    file: &File,
+    input: &[u8],
+    output: &mut [u8],
+) -> Result<(u32, usize), u32> {
     if volume.regions == 0 {
         return Err(status::INVALID_DEVICE_REQUEST);
     }
@@ -166,23 +172,25 @@ fn regions(volume: &Volume, file: &File, input: &[u8], output: &mut [u8]) -> Res
         return Err(status::BUFFER_TOO_SMALL);
     }
     if offset > eof || (offset == eof && eof > 0) {
-        return Ok(0);
+        return Ok((status::SUCCESS, 0));
     }
     if offset >= valid {
         put_region(output, 0, offset, length.min(eof - offset), 0);
-        return Ok(end_regions(output, 1));
+        return Ok((status::SUCCESS, end_regions(output, 1, 1)));
     }
     let first = length.min(valid - offset);
-    let second = valid < eof && first < length;
-    if second && output.len() < REGIONS_HEADER + 2 * REGION {
-        return Err(status::BUFFER_OVERFLOW);
-    }
     put_region(output, 0, offset, first, usage);
+    let second = valid < eof && first < length;
     if !second {
-        return Ok(end_regions(output, 1));
+        return Ok((status::SUCCESS, end_regions(output, 1, 1)));
+    }
+    // Without room for the second region the first is given all the same, so
+    // that the caller can go on from its end. The total tells that there is more.
+    if output.len() < REGIONS_HEADER + 2 * REGION {
+        return Ok((status::BUFFER_OVERFLOW, end_regions(output, 2, 1)));
     }
     put_region(output, 1, valid, (length - first).min(eof - valid), 0);
-    Ok(end_regions(output, 2))
+    Ok((status::SUCCESS, end_regions(output, 2, 2)))
 }
 
 /// Writes region number `index` of the reply.
@@ -195,13 +203,14 @@ fn put_region(output: &mut [u8], index: usize, offset: u64, length: u64, usage: 
     put_u32(region, 20, 0);
 }
 
-/// Writes the header over `count` regions and gives the reply's length.
-fn end_regions(output: &mut [u8], count: usize) -> usize {
+/// Writes the header over `given` of `total` regions and gives the reply's
+/// length.
+fn end_regions(output: &mut [u8], total: u32, given: u32) -> usize {
     put_u32(output, 0, 0);
-    put_u32(output, 4, count as u32);
-    put_u32(output, 8, count as u32);
+    put_u32(output, 4, total);
+    put_u32(output, 8, given);
     put_u32(output, 12, 0);
-    REGIONS_HEADER + count * REGION
+    REGIONS_HEADER + given as usize * REGION
 }
 
 /// Gives a file's reparse tag and as much of its reparse data as fits.

@@ -1,8 +1,9 @@
 //! Reference implementation of a file server's USN change journal and of four
 //! file controls, over buffers lent by the caller.
 //!
-//! Every call ends with one of the numbers in [`status`]. Any answer other than
-//! `SUCCESS` reports 0 bytes and changes nothing. No call allocates.
+//! Every call ends with one of the numbers in [`status`]. `BUFFER_OVERFLOW` is a
+//! warning, and comes with the part of the reply that fits. Any answer other than
+//! it and `SUCCESS` reports 0 bytes and changes nothing. No call allocates.
 
 #![forbid(unsafe_code)]
 #![warn(missing_docs)]
@@ -48,7 +49,8 @@ pub struct Volume {
     pub capacity: u64,
 }
 
-/// Turns a control's result into the status and byte count it reports.
+/// Turns the result of a control without warnings into the status and byte count
+/// it reports.
 fn answer(result: Result<usize, u32>) -> (u32, usize) {
     match result {
         Ok(count) => (status::SUCCESS, count),

@@ -2,7 +2,8 @@
 
 /// The call was carried out.
 pub const SUCCESS: u32 = 0;
-/// The output has room for one region where two are due.
+/// A warning: the output has room for one region where two are due, and the first
+/// was written.
 pub const BUFFER_OVERFLOW: u32 = 0x8000_0005;
 /// An argument or a field of the input is wrong.
 pub const INVALID_PARAMETER: u32 = 0xC000_000D;

@@ -271,12 +271,26 @@ fn query(v: &Volume, eof: u64, valid: u64, input: &[u8], size: usize) -> (u32, V
     (status, output)
 }
 
+/// The reply for Eof 100, Vdl 60 and the whole file without room for the second
+/// region.
+const FIRST_OF_TWO: [u8; 40] = [
+    0x00, 0x00, 0x00, 0x00, // Flags
+    0x02, 0x00, 0x00, 0x00, // total count
+    0x01, 0x00, 0x00, 0x00, // entry count
+    0x00, 0x00, 0x00, 0x00, // Reserved
+    0x00, 0x00, 0x00, 0x00, 0x00, 0x00, 0x00, 0x00, // offset
+    0x3C, 0x00, 0x00, 0x00, 0x00, 0x00, 0x00, 0x00, // length
+    0x01, 0x00, 0x00, 0x00, // usage
+    0x00, 0x00, 0x00, 0x00, // zero
+];
+
 #[test]
 fn region_examples() {
     let v = volume(0);
     let two = region_reply(&[(0, 60, 1), (60, 40, 0)]);
     assert_eq!(query(&v, 100, 60, &[], 64), (SUCCESS, two));
-    assert_eq!(query(&v, 100, 60, &[], 63).0, BUFFER_OVERFLOW);
+    let warned = (BUFFER_OVERFLOW, FIRST_OF_TWO.to_vec());
+    assert_eq!(query(&v, 100, 60, &[], 63), warned);
     let two = region_reply(&[(50, 10, 1), (60, 10, 0)]);
     assert_eq!(query(&v, 100, 60, &range(50, 20, 1), 99), (SUCCESS, two));
     let one = region_reply(&[(50, 10, 3)]);
@@ -288,6 +302,49 @@ fn region_examples() {
     assert_eq!(query(&v, 0, 0, &[], 40), (SUCCESS, one));
     let one = region_reply(&[(0, 100, 1)]);
     assert_eq!(query(&v, 100, 100, &[], 40), (SUCCESS, one));
+}
+
+/// Every room around those for one region and for two, with and without a second
+/// region due.
+#[test]
+fn region_rooms() {
+    let v = volume(0);
+    let max = i64::MAX as u64;
+    for (eof, valid, input, regions) in [
+        (100, 60, vec![], vec![(0, 60, 1), (60, 40, 0)]),
+        (100, 60, range(0, 61, 1), vec![(0, 60, 1), (60, 1, 0)]),
+        (100, 60, range(59, 99, 3), vec![(59, 1, 3), (60, 40, 0)]),
+        (100, 99, range(50, 50, 1), vec![(50, 49, 1), (99, 1, 0)]),
+        (max, max - 1, vec![], vec![(0, max - 1, 1), (max - 1, 1, 0)]),
+        (max, 1, vec![], vec![(0, 1, 1), (1, max - 1, 0)]),
+        (100, 100, vec![], vec![(0, 100, 1)]),
+        (100, 100, range(99, 2, 1), vec![(99, 1, 1)]),
+        (100, 60, range(0, 60, 1), vec![(0, 60, 1)]),
+        (100, 60, range(59, 1, 3), vec![(59, 1, 3)]),
+        (100, 60, range(60, 99, 1), vec![(60, 40, 0)]),
+        (100, 60, range(99, 99, 1), vec![(99, 1, 0)]),
+        (100, 0, vec![], vec![(0, 100, 0)]),
+        (max, max, vec![], vec![(0, max, 1)]),
+        (0, 0, vec![], vec![(0, 0, 0)]),
+        (0, 0, range(1, 1, 1), vec![]),
+        (100, 60, range(100, 1, 1), vec![]),
+        (100, 60, range(101, 1, 1), vec![]),
+    ] {
+        for room in 39..=64 {
+            let expected = match (room, regions.len()) {
+                (39, _) => (BUFFER_TOO_SMALL, vec![]),
+                (_, 0) => (SUCCESS, vec![]),
+                (40..=63, 2) => {
+                    let mut first = region_reply(&regions[..1]);
+                    first[4] = 2;
+                    (BUFFER_OVERFLOW, first)
+                }
+                _ => (SUCCESS, region_reply(&regions)),
+            };
+            let got = query(&v, eof, valid, &input, room);
+            assert_eq!(got, expected, "{regions:?} {room}");
+        }
+    }
 }
 
 #[test]
@@ -316,6 +373,20 @@ fn region_order() {
     assert_eq!(query(&v, 1, 1, &range(9, 1, 1), 39).0, BUFFER_TOO_SMALL);
     assert_eq!(query(&v, 1, 1, &range(9, 1, 1), 40), (SUCCESS, vec![]));
     assert_eq!(query(&v, max, max, &range(1, max - 1, 1), 40).0, SUCCESS);
+    // The warning comes behind every refusal.
+    for (volume, eof, input, room, status) in [
+        (0, 9, range(0, 9, 1), 63, INVALID_DEVICE_REQUEST),
+        (1, max + 1, range(0, 9, 1), 63, FILE_CORRUPT_ERROR),
+        (1, 9, vec![0; 23], 63, BUFFER_TOO_SMALL),
+        (1, 9, range(0, max + 1, 1), 63, INVALID_PARAMETER),
+        (1, 9, range(1, max, 1), 63, INVALID_PARAMETER),
+        (1, 9, range(0, 9, 2), 63, INVALID_PARAMETER),
+        (1, 9, range(0, 9, 1), 39, BUFFER_TOO_SMALL),
+        (1, 9, range(0, 9, 1), 63, BUFFER_OVERFLOW),
+    ] {
+        v.regions = volume;
+        assert_eq!(query(&v, eof, 5, &input, room).0, status);
+    }
 }
 
 #[test]
@@ -1552,6 +1623,7 @@ fn random_calls() {
 #[test]
 fn garbage() {
     let mut random = Random(2);
+    let mut warnings = 0;
     let edges = [
         0,
         1,
@@ -1616,7 +1688,15 @@ fn garbage() {
                 2 => query_file_regions(&v, &f, &query, &mut output),
                 _ => get_reparse_point(&v, &f, &asked, &mut output),
             };
-            assert!(status == SUCCESS || count == 0);
+            match status {
+                SUCCESS => {}
+                // Only the region query warns, and with its first region.
+                BUFFER_OVERFLOW => {
+                    assert_eq!((call, count), (2, 40));
+                    warnings += 1;
+                }
+                _ => assert_eq!(count, 0),
+            }
             assert!(output[count..].iter().all(|&b| b == 0xCC));
             output.fill(0xCC);
         }
@@ -1630,4 +1710,5 @@ fn garbage() {
         assert!(read_record(&ring, at).is_none_or(|r| r.next <= ring.len()));
         assert!(walk_reply(&ring).is_ok() || walk_reply(&ring).is_err_and(|at| at <= ring.len()));
     }
+    assert!(warnings > 0);
 }

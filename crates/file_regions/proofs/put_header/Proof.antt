@@ -10,7 +10,7 @@ returns c =
     let y = c .before .before in
     let x = y .before .before .before .before in
     let s = x .before .before .before in
-    header-put (s .args .n) (s .args .out .now) (x .put-two .last .0) (y .put-two2 .last .0) (s .pre) (x .put-two .ensures) (y .put-two2 .ensures)
+    header-put (s .args .total) (s .args .given) (s .args .out .now) (x .put-two .last .0) (y .put-two2 .last .0) (s .pre) (x .put-two .ensures) (y .put-two2 .ensures)
 
 pub put-header-spec : {M : Type 1} → statement M
 put-header-spec =

@@ -7,7 +7,7 @@ use native.Mathlib.Omega.{arith}
 use lib.ListN.{length, length-append}
 use borrow.Author.Tests.{not-true, not-false, le-leb, lt-leb}
 use Rattle.file_regions.specs.Regions.{isOutside, secondDue, listBytes, answerRegions, regionsAnswer}
-use Rattle.file_regions.proofs.Writing.{length-header, length-region, one-put, inside}
+use Rattle.file_regions.proofs.Writing.{length-header, length-region, second-put, inside}
 use Rattle.file_regions.proofs.reply_regions.Statement.{statement}
 use Rattle.file_regions.proofs.reply_regions.Tie as tie
 
@@ -31,41 +31,50 @@ is-two k = sym (k .before .second-due .ensures) ∙ not-false _ (k .if2 .left)
 returns-2 : tie.Need-returns-2
 unfolding regionsAnswer answerRegions listBytes
 returns-2 c =
-    let y = c .before .before .before in
-    let x = y .before .before .before .before in
+    let x = c .before .before .before in
     let k = x .before .before in
     let d = k .before .before in
     let s = d .before .before .before .before in
-    let p = one-put 1 (d .first-region .result) (s .args .output .now) (x .put-header .last .0) (y .put-region .last .0) (s .pre .2) (x .put-header .ensures) (y .put-region .ensures) in
     rw (is-inside (d .before), is-one k, ← (d .first-region .ensures), le-leb _ _ (s .pre .2), append-nil)
-    (record { answered = c .success2 .ensures ∙ simp (length-append, length-header, length-region); output = p ∙ simp (length-append, length-header, length-region) })
+    (record {
+      answered = c .success2 .ensures ∙ simp (length-append, length-header, length-region);
+      output = x .put-front .ensures ∙ simp (length-append, length-header, length-region);
+    })
 
 returns-3 : tie.Need-returns-3
-unfolding regionsAnswer answerRegions
+unfolding regionsAnswer answerRegions listBytes
 returns-3 c =
-    let k = c .before .before in
-    let i = k .before .before .before in
-    let o = i .before .before .before .args .output .now in
-    rw (is-inside i, is-two k, lt-leb 64 (length o) (omega (arith, c .before .if3 .taken))) (record { answered = c .refused .ensures; output = refl })
+    let x = c .before .before in
+    let l = x .before .before in
+    let k = l .before .before in
+    let d = k .before .before in
+    let o = d .before .before .before .before .args .output .now in
+    rw (is-inside (d .before), is-two k, ← (d .first-region .ensures), lt-leb 64 (length o) (omega (arith, l .if3 .taken)), append-nil)
+    (record { answered = simp (length-append, length-header, length-region); output = x .put-front2 .ensures ∙ simp (length-append, length-header, length-region) })
 
 returns-4 : tie.Need-returns-4
 unfolding regionsAnswer answerRegions listBytes
 returns-4 c =
     let y = c .before .before .before in
-    let x = y .before in
+    let x = y .before .before .before .before in
     let l = x .before .before in
-    let k = l .before in
+    let e = l .before in
+    let k = e .before in
     let d = k .before .before in
-    rw (is-inside (d .before), is-two k, ← (d .first-region .ensures), ← (x .second-region .ensures), le-leb 64 _ (l .if3 .left), append-nil)
+    let s = d .before .before .before .before in
+    rw (is-inside (d .before), is-two k, ← (d .first-region .ensures), ← (e .second-region .ensures), le-leb 64 _ (l .if3 .left), append-nil)
     (record {
       answered = c .success3 .ensures ∙ simp (length-append, length-header, length-region);
-      output = y .put-two-regions .ensures ∙ simp (length-append, length-header, length-region);
+      output =
+          second-put (d .first-region .result) (e .second-region .result) (s .args .output .now) (x .put-front3 .last .0) (y .put-region .last .0) (omega (arith, l .if3 .left))
+          (x .put-front3 .ensures) (y .put-region .ensures)
+          ∙ simp (length-append, length-header, length-region);
     })
 
 pub reply-regions-spec : {M : Type 1} → statement M
 reply-regions-spec =
     tie.close
     (tie.spec (λ c κs. omega arith) (λ c κs. omega arith) returns (λ c κs. inside _ _ (is-inside c)) (λ c κs. c .first-region .ensures)
-    (λ c κs. omega arith) (λ c. omega arith) (λ c. omega arith) (λ c. omega arith) (λ c κs. omega arith) (λ c κs. omega arith) (λ c. omega arith)
-    returns-2 (λ c κs. omega arith) returns-3 (λ c κs. let k = c .before .before in (k .before .before .first-region .ensures, is-two k))
-    (λ c κs. omega arith) (λ c κs. omega arith) (λ c. omega arith) returns-4)
+    (λ c κs. omega arith) (λ c κs. omega arith) (λ c. omega arith) returns-2 (λ c κs. (c .before .before .first-region .ensures, is-two c))
+    (λ c κs. omega arith) (λ c. omega arith) returns-3 (λ c κs. omega arith) (λ c. omega arith) (λ c. omega arith) (λ c. omega arith) (λ c κs. omega arith)
+    (λ c κs. omega arith) (λ c. omega arith) returns-4)
