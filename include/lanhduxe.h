@@ -41,8 +41,8 @@ extern "C" {
 /*
  * The version of this interface. It changes with every change of a struct or a call: a program that was compiled with another one
  * must be compiled again. Since version 2 the library is called lanhduxe, and this header lays out numbers and inputs. Since version 3
- * a journal can be saved to an image and loaded again. Since version 4 USN_BUFFER_OVERFLOW is a warning with 40 bytes of reply; it was
- * a refusal.
+ * a journal can be saved to an image and loaded again. Since version 4 USN_BUFFER_OVERFLOW, which was a refusal, is a warning with 40
+ * bytes of reply: a caller that drops what comes with a status other than USN_SUCCESS must keep them.
  */
 #define LANHDUXE_VERSION 4
 
@@ -62,8 +62,11 @@ extern "C" {
 #define USN_JOURNAL_NOT_ACTIVE         0xC00002B8u
 #define USN_JOURNAL_ENTRY_DELETED      0xC00002CFu
 
-/* Whether a call with this status was refused. A warning is no refusal. */
-#define USN_IS_REFUSAL(status) ((status) != USN_SUCCESS && (status) != USN_BUFFER_OVERFLOW)
+/* Whether a call with this status was refused. The warning, USN_BUFFER_OVERFLOW, is no refusal. */
+static inline int usn_is_refusal(uint32_t status)
+{
+    return status != USN_SUCCESS && status != USN_BUFFER_OVERFLOW;
+}
 
 /* ---- States of a journal ---- */
 
@@ -307,15 +310,16 @@ usn_answer usn_read_file(usn_volume volume, usn_file file, uint64_t parent, cons
 
 /*
  * Gives the file's regions (FSCTL_QUERY_FILE_REGIONS): that of valid data, and the rest of the file.
- * Input: FileOffset i64 and Length i64, both signed, DesiredUsage u32, 4 bytes that are ignored; or nothing, for the whole file and
- * usage 1. A FileOffset past the end of the file, or at the end of one that is not empty, gives USN_SUCCESS with 0 bytes.
+ * Input: FileOffset i64 and Length i64, both signed, DesiredUsage u32, 4 bytes that are ignored; or nothing, for the offset 0, the length
+ * 2^63 - 1 and usage 1. A FileOffset past the end of the file, or at the end of one that is not empty, gives USN_SUCCESS with 0 bytes.
  * Reply: Flags 0, the number of regions, the number of those given, 0, u32 each; then for each one given its offset u64, length u64,
  * usage u32 and 0 u32.
- * USN_BUFFER_OVERFLOW, a warning, where two regions are due and the output is below USN_REGIONS_ROOM: the reply is 40 bytes, with the
- * numbers 2 and 1 and the first region. A query for what is behind that region gives the second, with USN_SUCCESS.
  * INVALID_DEVICE_REQUEST without support; FILE_CORRUPT_ERROR for a wrong eof or valid; BUFFER_TOO_SMALL for 1 to 23 bytes of input;
  * INVALID_PARAMETER for a Length that is not above 0, a negative FileOffset, an end past 2^63 - 1, or a usage without flag 1;
  * BUFFER_TOO_SMALL below 40 bytes of output.
+ * Where none of these applies, two regions are due, and the output is below USN_REGIONS_ROOM: BUFFER_OVERFLOW, the warning, with 40 bytes
+ * of reply, which have the numbers 2 and 1 and the first region. A query from the end of that region on, with the Length less that
+ * region's, gives the second, with USN_SUCCESS.
  */
 usn_answer usn_query_file_regions(usn_volume volume, usn_file file, const uint8_t *input, size_t input_size,
                                   uint8_t *output, size_t output_size);

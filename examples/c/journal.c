@@ -67,7 +67,7 @@ static void ask_regions(const usn_volume *volume, usn_file file)
         usn_put_number(input + 8, length, 8);
         usn_put_number(input + 16, 1, 4);
         answer = usn_query_file_regions(*volume, file, input, sizeof input, output, sizeof output);
-        if (USN_IS_REFUSAL(answer.status))
+        if (usn_is_refusal(answer.status))
             break;
         if (answer.count > 0) {
             uint64_t size = usn_get_number(output + 24, 8);

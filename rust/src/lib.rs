@@ -661,14 +661,9 @@ impl Volume {
     ///
     /// Lent are the input, which stays as it is, and the output. The input has
     /// FileOffset and Length `i64` and DesiredUsage `u32`, in 24 bytes; an empty
-    /// input asks for the whole file. The reply is 16 bytes with the counts and
+    /// input means the offset 0, the length 2^63 - 1 and usage 1. The reply is 16 bytes with the counts and
     /// one or two regions of 24 bytes, or nothing for an offset at or behind the
     /// file's end.
-    ///
-    /// If a second region is due and the output is below 64 bytes, the status is
-    /// the warning [`Status::BufferOverflow`], and the reply is 40 bytes with a
-    /// total count of 2, an entry count of 1 and the first region. A call for
-    /// what is behind that region gives the second.
     ///
     /// Refusals, in order: [`Status::InvalidDeviceRequest`] without support;
     /// [`Status::FileCorruptError`] for a wrong `eof` or `valid`;
@@ -676,6 +671,12 @@ impl Volume {
     /// [`Status::InvalidParameter`] for a length of 0 or below, a range that
     /// passes 2^63 - 1, or a usage without flag 1; [`Status::BufferTooSmall`]
     /// below 40 bytes of output.
+    ///
+    /// If none of these applies, a second region is due and the output is below
+    /// 64 bytes, the status is the warning [`Status::BufferOverflow`], and the
+    /// reply is 40 bytes with a total count of 2, an entry count of 1 and the
+    /// first region. A query from the end of that region on, with the length
+    /// less that region's, gives the second.
     #[inline]
     pub fn query_file_regions(&self, file: &FileRecord, input: &[u8], output: &mut [u8]) -> Answer {
         // SAFETY: as in `read_journal`.

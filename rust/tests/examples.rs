@@ -2,7 +2,7 @@
 
 mod common;
 
-use common::{expected, lay_out};
+use common::{expected, lay_out, region_input};
 use lanhduxe::{list_reply, read_record, walk_reply};
 use lanhduxe::{Answer, Change, FileRecord, Link, Status, Volume};
 
@@ -198,15 +198,6 @@ fn regions(output: &[u8], answer: Answer) -> Vec<(u64, u64, u64)> {
             )
         })
         .collect()
-}
-
-fn region_input(offset: u64, length: u64, usage: u32) -> Vec<u8> {
-    let mut input = Vec::new();
-    input.extend(offset.to_le_bytes());
-    input.extend(length.to_le_bytes());
-    input.extend(usage.to_le_bytes());
-    input.extend([0; 4]);
-    input
 }
 
 #[test]

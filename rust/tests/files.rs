@@ -3,7 +3,7 @@
 
 mod common;
 
-use common::{check, expected, model_file, model_links, model_volume};
+use common::{check, expected, model_file, model_links, model_volume, region_input};
 use common::{Counts, Hex, Lent, Rng, GUARD, NEGATIVE};
 use lanhduxe::{Answer, FileRecord, Link, Status, Volume};
 
@@ -276,10 +276,8 @@ fn region_queries_agree_with_the_model() {
             3..=5 => 3,
             _ => 1,
         };
-        let mut input = Vec::new();
-        input.extend(offset.to_le_bytes());
-        input.extend(length.to_le_bytes());
-        input.extend(usage.to_le_bytes());
+        let mut input = region_input(offset, length, usage);
+        input.truncate(20);
         input.extend(rng.bytes(12));
         let size = match rng.below(20) {
             0..=2 => 0,
@@ -355,16 +353,11 @@ fn sized(eof: u64, valid: u64) -> FileRecord {
 
 /// The input that asks for a range; the empty one for the whole file.
 fn asking(range: Region) -> Vec<u8> {
-    let mut input = Vec::new();
     if range == WHOLE {
-        return input;
+        return Vec::new();
     }
     let (offset, length, usage) = range;
-    input.extend(offset.to_le_bytes());
-    input.extend(length.to_le_bytes());
-    input.extend(usage.to_le_bytes());
-    input.extend([0xDD; 4]);
-    input
+    region_input(offset, length, usage)
 }
 
 /// The library's answer and reply. What lies behind the reply must be as it was.
@@ -468,7 +461,7 @@ fn regions_at_the_edges_of_the_room() {
 fn ask_to_the_end(file: &FileRecord, range: Region, room: usize) -> (Vec<Region>, usize) {
     let mut regions = Vec::new();
     let mut rest = range;
-    // Two regions at most are due, and a call gives one at least.
+    // Two regions at most are due, and a call that warns gives one.
     for calls in 1..=2 {
         let (answer, reply) = query(file, &asking(rest), room);
         regions.extend(regions_in(&reply));

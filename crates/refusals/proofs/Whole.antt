@@ -6,9 +6,11 @@ use mathlib.Core.List.{List, [], _∷_, append-nil}
 use mathlib.Core.Option.{Option, none, some}
 use Prim.Native.Nat.{ℕ, _+_, _*_, _≤_, _<_}
 use native.Mathlib.Omega.{arith}
+use lib.Dec.{leb}
 use lib.ListN.{length}
 use Rattle.status.specs.declared.Status.{Status}
-use Rattle.status.specs.declared.Status.the-variants.{BufferOverflow}
+use Rattle.status.specs.declared.Status.the-variants.{Success, BufferOverflow, InvalidParameter, InvalidDeviceRequest, BufferTooSmall, UnknownRevision, DiskFull, FileCorruptError, NotAReparsePoint, VolumeNotUpgraded, JournalDeleteInProgress, JournalNotActive, JournalEntryDeleted}
+use Rattle.status.specs.Number.{number}
 use Rattle.status.proofs.Checking.{Never, nevers}
 use Rattle.usn_record.specs.declared.Version.{Version}
 use Rattle.usn_record.specs.Layout.{Record}
@@ -35,6 +37,21 @@ use Rattle.image_load.specs.Load.{settled, formCheck, fitCheck, imageCheck, loa
 use Rattle.history.specs.Calls.{Call, create, post, read, delete, finish, save, load, statusOf, next}
 use Rattle.refusals.proofs.Replies.{refutes, Fair, fair-give, fair-warn, fair-leb, fairs, fair-never}
 use Rattle.refusals.specs.Refusal.{isWarning, isRefusal, Control, readJournal, saveJournal, readFile, readFileTable, queryRegions, getReparsePoint, listRecords, writeRecord, copyRecord, copyOlder, replyOf, usnAfter, Warned, Refusals}
+
+refusals-are-errors : (x : Status) → isRefusal x ≡ leb 0xC0000000 (number x)
+refusals-are-errors Success = refl
+refusals-are-errors BufferOverflow = refl
+refusals-are-errors InvalidParameter = refl
+refusals-are-errors InvalidDeviceRequest = refl
+refusals-are-errors BufferTooSmall = refl
+refusals-are-errors UnknownRevision = refl
+refusals-are-errors DiskFull = refl
+refusals-are-errors FileCorruptError = refl
+refusals-are-errors NotAReparsePoint = refl
+refusals-are-errors VolumeNotUpgraded = refl
+refusals-are-errors JournalDeleteInProgress = refl
+refusals-are-errors JournalNotActive = refl
+refusals-are-errors JournalEntryDeleted = refl
 
 -- ---- what replies with bytes
 
@@ -146,6 +163,7 @@ call-never j (load s id) = performed-never (loadCheck (j .volume) (length (j .ri
 pub refusals : Refusals
 refusals =
     record {
+      errors = refusals-are-errors;
       controls = λ c room. fair-control c room .refused;
       warnings = λ c room. fair-control c room .warned;
       calls = call-refusal;

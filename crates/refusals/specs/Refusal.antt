@@ -1,9 +1,9 @@
--- A refusal reports no bytes and changes nothing, whatever control or call it comes from; and which status is none.
+-- Which statuses are refusals, and that a refusal reports no bytes and changes nothing, whatever control or call it comes from.
 use mathlib.Core.Path.{_≡_}
 use mathlib.Core.Bool.{Bool, true, false, not, _||_}
 use mathlib.Core.List.{List}
 use Prim.Native.Nat.{ℕ, _<_}
-use lib.Dec.{eqb}
+use lib.Dec.{leb, eqb}
 use Rattle.status.specs.declared.Status.{Status}
 use Rattle.status.specs.declared.Status.the-variants.{Success, BufferOverflow}
 use Rattle.status.specs.Number.{number}
@@ -24,11 +24,11 @@ use Rattle.journal_post.specs.Post.{postUsn}
 use Rattle.journal_post.specs.Posts.{Journal}
 use Rattle.history.specs.Calls.{Call, create, post, read, delete, finish, save, load, statusOf, next}
 
--- the reply holds a part of what was asked for
+-- the warning
 abbrev pub isWarning : Status → Bool
 isWarning x = eqb (number x) (number BufferOverflow)
 
--- all statuses but SUCCESS and the warning
+-- every status but SUCCESS and the warning
 abbrev pub isRefusal : Status → Bool
 isRefusal x = not (eqb (number x) (number Success) || isWarning x)
 
@@ -83,7 +83,7 @@ usnAfter j (load s id) usn = usn
 
 -- ---- the promise
 
--- a region query that had no room for two regions, and gave one
+-- a region query that had no room for two regions, and reported 40 bytes
 pub record Warned (c : Control) (room : ℕ) : Type 0 where
   pub volume : Volume
   pub file : FileRecord
@@ -93,6 +93,8 @@ pub record Warned (c : Control) (room : ℕ) : Type 0 where
   pub count : answer (replyOf c room) .count ≡ 40
 
 pub record Refusals : Type 0 where
+  -- the refusals are the errors of [MS-ERREF], whose two highest bits are set
+  pub errors : (x : Status) → isRefusal x ≡ leb 0xC0000000 (number x)
   -- a control that refuses reports no bytes and leaves its output
   pub controls : (c : Control) (room : ℕ) → isRefusal (answer (replyOf c room) .status) ≡ true
       → (answer (replyOf c room) .count ≡ 0) × ((out : List ℕ) → after (replyOf c room) out ≡ out)

@@ -472,6 +472,16 @@ impl ReadInput {
     }
 }
 
+/// The input of a region query. Its last four bytes are ignored.
+pub fn region_input(offset: u64, length: u64, usage: u32) -> Vec<u8> {
+    let mut input = Vec::new();
+    input.extend(offset.to_le_bytes());
+    input.extend(length.to_le_bytes());
+    input.extend(usage.to_le_bytes());
+    input.extend([0xDD; 4]);
+    input
+}
+
 /// Whether a mask and an only-on-close flag select a reason.
 pub fn selects(mask: u32, only_on_close: u32, reason: u32) -> bool {
     reason & mask != 0 && (only_on_close == 0 || reason >> 31 == 1)
