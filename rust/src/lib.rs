@@ -661,9 +661,9 @@ impl Volume {
     ///
     /// Lent are the input, which stays as it is, and the output. The input has
     /// FileOffset and Length `i64` and DesiredUsage `u32`, in 24 bytes; an empty
-    /// input means the offset 0, the length 2^63 - 1 and usage 1. The reply is 16 bytes with the counts and
-    /// one or two regions of 24 bytes, or nothing for an offset at or behind the
-    /// file's end.
+    /// input means the offset 0, the length 2^63 - 1 and usage 1. The reply is 16
+    /// bytes with the counts and one or two regions of 24 bytes, or nothing for
+    /// an offset behind the file's end or at the end of one that is not empty.
     ///
     /// Refusals, in order: [`Status::InvalidDeviceRequest`] without support;
     /// [`Status::FileCorruptError`] for a wrong `eof` or `valid`;
