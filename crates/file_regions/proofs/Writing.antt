@@ -1,26 +1,14 @@
 -- The reply: what the writers leave in the output.
 -- Assumes nothing.
-use mathlib.Core.Path.{_≡_, refl, ap, _∙_}
-use mathlib.Core.Bool.{Bool, true, false, _||_}
-use mathlib.Core.Option.{none}
+use mathlib.Core.Path.{_≡_, ap, _∙_}
 use mathlib.Core.List.{List, [], _∷_, _++_, append-assoc, append-nil}
 use Prim.Native.Nat.{ℕ, _≤_}
-use lib.Dec.{leb, ltb, eqb}
 use lib.ListN.{length, drop, length-append}
-use borrow.Author.Tests.{ltb-false}
 use Rattle.le.specs.Numbers.{encode}
 use Rattle.le.proofs.Numbers.{length-le, length-two}
 use Rattle.le.proofs.Tail.{lent, back, put-first, put-next}
-use Rattle.status.specs.declared.Status.the-variants.{InvalidDeviceRequest, BufferTooSmall, FileCorruptError}
-use Rattle.status.specs.Check.{unless, else}
-use Rattle.status.proofs.Checking.{else-none, unless-true}
-use Rattle.volume.specs.declared.Volume.{Volume}
-use Rattle.volume.specs.State.{supported}
-use Rattle.file_record.specs.declared.FileRecord.{FileRecord}
 use Rattle.file_regions.specs.declared.Region.{Region}
-use Rattle.file_regions.specs.Regions.{askedOf, goodSizes, askedCheck, regionsCheck, isOutside, regionsHeader, regionBytes}
-
--- ---- the bytes
+use Rattle.file_regions.specs.Regions.{regionsHeader, regionBytes}
 
 -- two numbers of one width
 abbrev two : ℕ → ℕ → ℕ → List ℕ
@@ -65,47 +53,3 @@ pub second-put : (first second : Region) (o l1 l2 : List ℕ) → 64 ≤ length 
 second-put first second o l1 l2 h q1 q2 =
     put-next (put-first 40 (front 2 2 first) o l1 (length-front 2 2 first) q1) 24 (regionBytes second) l2 (length-region second) h q2 .whole
     ∙ ap (λ (l : List ℕ). l ++ drop 64 o) (append-assoc (regionsHeader 2 2) (regionBytes first) (regionBytes second))
-
--- ---- behind the checks
-
--- what a call that has passed its checks says
-pub record Passed (v : Volume) (f : FileRecord) (input : List ℕ) (room : ℕ) : Type 0 where
-  pub has : supported (v .regions) ≡ true
-  pub sizes : goodSizes f ≡ true
-  pub long : eqb (length input) 0 || leb 24 (length input) ≡ true
-  pub asked : askedCheck (askedOf input) ≡ none
-  pub space : leb 40 room ≡ true
-
-pub passed : (v : Volume) (f : FileRecord) (input : List ℕ) (room : ℕ) → regionsCheck v f input room ≡ none → Passed v f input room
-unfolding regionsCheck
-passed v f input room e =
-    let n = length input in
-    let k = askedCheck (askedOf input) in
-    let last = unless (leb 40 room) BufferTooSmall in
-    let short = unless (eqb n 0 || leb 24 n) BufferTooSmall in
-    let sized = unless (goodSizes f) FileCorruptError in
-    let none-has = unless (supported (v .regions)) InvalidDeviceRequest in
-    let w = else-none none-has (else sized (else short (else k last))) e in
-    let x = else-none sized (else short (else k last)) (w .1) in
-    let y = else-none short (else k last) (x .1) in
-    let z = else-none k last (y .1) in
-    record {
-      has = unless-true (supported (v .regions)) InvalidDeviceRequest (w .0);
-      sizes = unless-true (goodSizes f) FileCorruptError (x .0);
-      long = unless-true (eqb n 0 || leb 24 n) BufferTooSmall (y .0);
-      asked = z .0;
-      space = unless-true (leb 40 room) BufferTooSmall (z .1);
-    }
-
-pub passes : (v : Volume) (f : FileRecord) (input : List ℕ) (room : ℕ) → Passed v f input room → regionsCheck v f input room ≡ none
-unfolding regionsCheck
-passes v f input room p = rw (p .has, p .sizes, p .long, p .asked, p .space)
-
--- an offset that is not outside lies within the file
-pub inside : (eof offset : ℕ) → isOutside eof offset ≡ false → offset ≤ eof
-unfolding isOutside
-inside eof offset e = ltb-false eof offset (or-left (ltb eof offset) _ e)
-  where
-    or-left : (a b : Bool) → a || b ≡ false → a ≡ false
-    or-left true b k = k
-    or-left false b k = refl

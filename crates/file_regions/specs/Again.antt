@@ -1,33 +1,25 @@
 -- After a warning: a caller asks again, for what is behind the region that it got.
 use mathlib.Core.Path.{_≡_}
-use mathlib.Core.List.{List, [], _∷_, _++_}
+use mathlib.Core.List.{List, _++_}
 use Prim.Native.Nat.{ℕ, _+_, _-_}
 use lib.ListN.{drop}
 use Rattle.le.specs.Bytes.{Bytes}
-use Rattle.le.specs.Numbers.{numberAt, encode}
 use Rattle.status.specs.declared.Status.the-variants.{Success, BufferOverflow}
-use Rattle.status.specs.Reply.{Reply, answer, after}
+use Rattle.status.specs.Reply.{Reply, answer, written}
 use Rattle.volume.specs.declared.Volume.{Volume}
 use Rattle.file_record.specs.declared.FileRecord.{FileRecord}
 use Rattle.file_regions.specs.declared.Asked.{Asked}
+use Rattle.file_regions.specs.declared.Region.{Region}
 use Rattle.file_regions.specs.Regions.{askedOf, regionsReply}
+use Rattle.file_regions.specs.Caller.{inputFor, regionAt}
 
--- the bytes that a reply writes
-abbrev pub written : Reply → List ℕ
-written reply = after reply []
+-- what is left of a range behind a region of it
+abbrev pub behind : Asked → Region → Asked
+behind a r = record { offset = r .offset + r .length; length = a .length - r .length; usage = a .usage }
 
--- FileOffset, Length, DesiredUsage and what is ignored
-abbrev pub inputFor : Asked → List ℕ
-inputFor a = encode (8 ∷ 8 ∷ 4 ∷ 4 ∷ []) (a .offset ∷ a .length ∷ a .usage ∷ 0 ∷ [])
-
--- what is left of a range behind the first region of a reply, as its bytes have that
-abbrev pub behind : Asked → List ℕ → Asked
-behind a reply =
-    record { offset = numberAt reply 16 8 + numberAt reply 24 8; length = a .length - numberAt reply 24 8; usage = a .usage }
-
--- the reply to that
+-- the reply to one who asks for what is behind the first region of a reply
 abbrev pub nextReply : Volume → FileRecord → List ℕ → ℕ → Reply
-nextReply v f input room = regionsReply v f (inputFor (behind (askedOf input) (written (regionsReply v f input room)))) room
+nextReply v f input room = regionsReply v f (inputFor (behind (askedOf input) (regionAt (written (regionsReply v f input room)) 16))) room
 
 pub record Completes (v : Volume) (f : FileRecord) (input : List ℕ) (room : ℕ) : Type 0 where
   -- the second call is the last

@@ -1,2 +1,4 @@
 pub mod Regions
+pub mod Caller
 pub mod Again
+pub mod Tiling

@@ -2,9 +2,9 @@
 -- Assumes nothing.
 use mathlib.Core.Path.{_≡_, refl, ap₂}
 use mathlib.Core.Bool.{Bool, true, false, cond}
-use mathlib.Core.List.{List, [], _∷_, append-nil}
+use mathlib.Core.List.{List, append-nil}
 use mathlib.Core.Option.{Option, none, some}
-use Prim.Native.Nat.{ℕ, _+_, _*_, _≤_, _<_}
+use Prim.Native.Nat.{ℕ, _+_, _*_, _<_}
 use native.Mathlib.Omega.{arith}
 use lib.Dec.{leb}
 use lib.ListN.{length}
@@ -27,8 +27,9 @@ use Rattle.journal_read.specs.Read.{deletedCheck, answerFrom, readAnswer, readR
 use Rattle.file_record.specs.declared.FileRecord.{FileRecord}
 use Rattle.file_usn.specs.FileUsn.{fileCheck, fileAnswer, namedReply}
 use Rattle.file_regions.specs.declared.Asked.{Asked}
-use Rattle.file_regions.specs.Regions.{askedCheck, regionsCheck, firstRegion, secondDue, secondRegion, regionsOf, listBytes, answerRegions, regionsAnswer, regionsReply}
+use Rattle.file_regions.specs.Regions.{askedCheck, regionsCheck, regionsOf, listBytes, answerRegions, regionsAnswer, regionsReply}
 use Rattle.file_regions.proofs.Writing.{length-front}
+use Rattle.file_regions.proofs.Checked.{few}
 use Rattle.reparse_point.specs.Reparse.{reparseCheck, reparseReply}
 use Rattle.journal_post.specs.Posts.{Journal}
 use Rattle.image.specs.Image.{Image}
@@ -67,14 +68,6 @@ fair-read v ring input room = search (fairs, fair-from) depth 10
 fair-save : {W : ℕ → Type 0} (v : Volume) (ring : List ℕ) (room : ℕ) → Fair W (saveReply v ring room)
 unfolding saveAs saveCheck imageReply
 fair-save v ring room = search fairs
-
--- at most two regions are due
-few : (eof vdl : ℕ) (a : Asked) → length (regionsOf eof vdl a) ≤ 2
-few eof vdl a = go (secondDue eof vdl a)
-  where
-    go : (b : Bool) → length (firstRegion eof vdl a ∷ cond b (secondRegion eof vdl a ∷ []) []) ≤ 2
-    go true = omega arith
-    go false = omega arith
 
 -- a warning has a header and the first region, and no room for two
 fair-answer : (eof vdl : ℕ) (a : Asked) (room : ℕ) → Fair (λ n. (room < 64) × (n ≡ 40)) (answerRegions (regionsOf eof vdl a) room)

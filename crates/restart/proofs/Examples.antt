@@ -10,6 +10,7 @@ use lib.Dec.{lit<}
 use lib.ListN.{take, getD, set, replicate}
 use Rattle.le.specs.Numbers.{le, unle, numberAt, encode, decode, total}
 use Rattle.le.specs.Bytes.{begins}
+use Rattle.le.proofs.Runs.{below-bytes}
 use Rattle.status.specs.declared.Status.{Status}
 use Rattle.status.specs.declared.Status.the-variants.{Success, InvalidParameter, InvalidDeviceRequest, UnknownRevision, DiskFull, FileCorruptError, JournalDeleteInProgress}
 use Rattle.status.specs.Reply.{give}
@@ -25,7 +26,7 @@ use Rattle.journal.specs.Boundary.{oldest}
 use Rattle.journal_post.specs.Post.{postedName, postCheck, verdict, postedVolume, postedRing}
 use Rattle.journal_post.specs.Posts.{Journal, Posting}
 use Rattle.image.specs.Image.{Image, wordsIn, wordSum, sumOf, sealed, imageOf, goodTrailer, allOf, lastFrom, fitsRing, readImage}
-use Rattle.image.proofs.Examples.{oneImage, oneBytes, one-read, one-bytes, below-bytes}
+use Rattle.image.proofs.Examples.{oneImage, oneBytes, one-read, one-bytes}
 use Rattle.image_save.specs.Save.{saveCheck, imageReply, saveAs, saveReply}
 use Rattle.image_load.specs.Load.{postingOf, formCheck, fitCheck, loadCheck, loadOutcome, loadRing}
 use Rattle.history.specs.Calls.{Call, create, post, load, loadEffect, next, runs}

@@ -7,7 +7,6 @@ use Prim.Native.Nat.{ℕ}
 use native.Mathlib.Omega.{arith}
 use lib.Dec.{eqb}
 use Rattle.status.specs.declared.Status.{Status}
-use Rattle.status.specs.declared.Status.the-variants.{Success}
 use Rattle.status.specs.declared.Judged.the-variants.{Passed, Refused}
 use Rattle.status.specs.Check.{unless, else, judged}
 use Rattle.status.specs.Number.{number}
@@ -37,21 +36,21 @@ told-passed (some y) e = let z : _≡_ {A = ℕ} 0 1 = cc in absurd (omega arith
 
 -- ---- a status that no check gives
 
--- the status that checks come to, SUCCESS where none applies
-abbrev pub checkStatus : Option Status → Status
-checkStatus none = Success
-checkStatus (some x) = x
+-- whether checks refuse with this status
+abbrev pub refuseWith : Option Status → Status → Bool
+refuseWith none x = false
+refuseWith (some y) x = eqb (number y) (number x)
 
 pub record Never (x : Status) (k : Option Status) : Type 0 where
-  pub other : eqb (number (checkStatus k)) (number x) ≡ false
+  pub other : refuseWith k x ≡ false
 
 module _ {x : Status} where
-  pub never-none : eqb (number Success) (number x) ≡ false → Never x none
-  never-none h = record { other = h }
+  pub never-none : Never x none
+  never-none = record { other = refl }
 
-  pub never-unless : (b : Bool) (y : Status) → eqb (number Success) (number x) ≡ false → eqb (number y) (number x) ≡ false → Never x (unless b y)
-  never-unless true y h k = never-none h
-  never-unless false y h k = record { other = k }
+  pub never-unless : (b : Bool) (y : Status) → eqb (number y) (number x) ≡ false → Never x (unless b y)
+  never-unless true y h = never-none
+  never-unless false y h = record { other = h }
 
   pub never-else : (a b : Option Status) → Never x a → Never x b → Never x (else a b)
   never-else none b p q = q

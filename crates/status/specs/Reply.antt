@@ -1,7 +1,7 @@
 -- What a control replies, and what the caller then sees of it.
 use mathlib.Core.Path.{_≡_}
 use mathlib.Core.Option.{Option, none, some}
-use mathlib.Core.List.{List, _++_}
+use mathlib.Core.List.{List, [], _++_}
 use Prim.Native.Nat.{ℕ}
 use lib.ListN.{length, drop}
 use Rattle.status.specs.declared.Status.{Status}
@@ -26,6 +26,11 @@ answer (give x bytes) = record { status = x; count = length bytes }
 abbrev pub after : Reply → List ℕ → List ℕ
 after (refuse x) out = out
 after (give x bytes) out = bytes ++ drop (length bytes) out
+
+-- the reply's bytes
+abbrev pub written : Reply → List ℕ
+written (refuse x) = []
+written (give x bytes) = bytes
 
 -- a call that gave r, and took its output buffer from `old` to `new`, replied so
 pub record Replied (reply : Reply) (r : Answer) (old new : List ℕ) : Type 0 where

@@ -7,7 +7,7 @@ use lib.ListN.{length}
 use borrow.Author.Tests.{leb-true}
 use Rattle.status.proofs.Checking.{told-refused, told-passed}
 use Rattle.file_regions.specs.Regions.{regionsCheck, regionsReply}
-use Rattle.file_regions.proofs.Writing.{Passed, passed}
+use Rattle.file_regions.proofs.Checked.{Passed, passed}
 use Rattle.file_regions.proofs.query_file_regions.Statement.{statement}
 use Rattle.file_regions.proofs.query_file_regions.Tie as tie
 

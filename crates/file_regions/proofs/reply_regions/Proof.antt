@@ -7,7 +7,8 @@ use native.Mathlib.Omega.{arith}
 use lib.ListN.{length, length-append}
 use borrow.Author.Tests.{not-true, not-false, le-leb, lt-leb}
 use Rattle.file_regions.specs.Regions.{isOutside, secondDue, listBytes, answerRegions, regionsAnswer}
-use Rattle.file_regions.proofs.Writing.{length-header, length-region, second-put, inside}
+use Rattle.file_regions.proofs.Writing.{length-header, length-region, second-put}
+use Rattle.file_regions.proofs.Checked.{inside}
 use Rattle.file_regions.proofs.reply_regions.Statement.{statement}
 use Rattle.file_regions.proofs.reply_regions.Tie as tie
 
