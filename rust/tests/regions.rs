@@ -341,7 +341,6 @@ fn ask(file: &FileRecord, range: Region, room: usize) -> Option<Vec<Region>> {
 /// What the test of tiles has looked at.
 #[derive(Debug, Default)]
 struct Tiled {
-    ranges: usize,
     warnings: usize,
     /// The replies with no region, with one and with two.
     replies: [usize; 3],
@@ -352,7 +351,6 @@ struct Tiled {
 fn check_tiles(cases: &[Case]) -> Tiled {
     let mut seen = Tiled::default();
     for (file, range) in cases {
-        seen.ranges += 1;
         for room in (40..=64).chain([80]) {
             let Some(regions) = ask(file, *range, room) else {
                 seen.warnings += 1;
@@ -377,9 +375,8 @@ fn check_tiles(cases: &[Case]) -> Tiled {
 fn regions_tile_the_file() {
     for cases in [small_cases(), large_cases()] {
         let seen = check_tiles(&cases);
-        println!("{seen:?}");
-        assert_eq!(seen.ranges, cases.len());
-        assert!(seen.warnings > 0 && seen.bytes > 24 * cases.len());
+        println!("{} ranges, {seen:?}", cases.len());
+        assert!(seen.warnings > 0);
         assert!(seen.replies.iter().all(|replies| *replies > 0));
     }
 }
@@ -387,7 +384,6 @@ fn regions_tile_the_file() {
 /// What the test of parts has looked at.
 #[derive(Debug, Default)]
 struct Parted {
-    ranges: usize,
     /// The ranges whose one reply has two regions.
     twos: usize,
     splits: usize,
@@ -398,7 +394,8 @@ struct Parted {
     bytes: usize,
 }
 
-/// The two parts of a range, for each split that leaves something in both.
+/// The two parts of a range, split at each of the places inside: at every byte,
+/// where the range lies within the first places.
 fn parts(file: &FileRecord, range: Region) -> Vec<[Region; 2]> {
     let (offset, length, usage) = range;
     let mut parts = Vec::new();
@@ -406,7 +403,7 @@ fn parts(file: &FileRecord, range: Region) -> Vec<[Region; 2]> {
         if place <= offset.into() || place >= end(range) {
             continue;
         }
-        let split = u64::try_from(place).expect("below 2^63");
+        let split = u64::try_from(place).expect("the range ends below 2^64");
         let rest = length - (split - offset);
         parts.push([(offset, split - offset, usage), (split, rest, usage)]);
     }
@@ -420,7 +417,6 @@ fn check_parts(cases: &[Case]) -> Parted {
     let mut seen = Parted::default();
     for (file, range) in cases {
         let whole = ask(file, *range);
-        seen.ranges += 1;
         seen.twos += usize::from(whole.len() == 2);
         for parts in parts(file, *range) {
             let regions = parts.map(|part| ask(file, part)).concat();
@@ -444,11 +440,50 @@ fn check_parts(cases: &[Case]) -> Parted {
 
 #[test]
 fn asking_in_two_parts_gives_the_same() {
+    // Every split of a small range is tried.
+    for (file, range) in small_cases() {
+        let splits = parts(&file, range).len() as u64;
+        assert!(range == WHOLE || splits == range.1 - 1, "{range:?}");
+    }
     for cases in [small_cases(), large_cases()] {
         let seen = check_parts(&cases);
-        println!("{seen:?}");
-        assert_eq!(seen.ranges, cases.len());
-        assert!(seen.twos > 0 && seen.past > seen.across && seen.across > 0);
-        assert!(seen.splits > seen.past && seen.bytes > 24 * seen.splits);
+        println!("{} ranges, {seen:?}", cases.len());
+        assert!(seen.twos > 0);
+        assert!(0 < seen.across && seen.across < seen.past && seen.past < seen.splits);
     }
+}
+
+/// Whether a query with room for two regions succeeds. If not it is refused.
+fn succeeds(file: &FileRecord, range: Region) -> bool {
+    let (answer, reply) = query(file, &asking(range), 64);
+    let success = answer.status == Status::Success;
+    assert!(success || answer.status.is_refusal() && reply.is_empty());
+    success
+}
+
+#[test]
+fn a_range_succeeds_if_both_parts_do() {
+    let mut cases = Vec::new();
+    // Ranges around the largest end that may be asked for, and those that a bad
+    // file record or a usage without flag 1 refuses.
+    for file in [sized(TOP, 3), sized(6, 4), sized(6, 7), sized(NEGATIVE, 4)] {
+        for offset in [0, 1, TOP - 6, TOP - 1, TOP, NEGATIVE, u64::MAX - 9] {
+            for end in [7, TOP - 1, TOP, NEGATIVE, NEGATIVE + 3, u64::MAX] {
+                let length = end.saturating_sub(offset);
+                cases.extend([0, 1, 2, 3].map(|usage| (file, (offset, length, usage))));
+            }
+        }
+    }
+    // How often none, one and both of the parts succeed.
+    let mut seen = [0; 3];
+    for (file, range) in &cases {
+        let whole = succeeds(file, *range);
+        for parts in parts(file, *range) {
+            let answered = parts.map(|part| succeeds(file, part));
+            assert_eq!(whole, answered == [true, true], "{file:?} {parts:?}");
+            seen[usize::from(answered[0]) + usize::from(answered[1])] += 1;
+        }
+    }
+    println!("{} ranges, {seen:?} splits", cases.len());
+    assert!(seen.iter().all(|splits| *splits > 0), "{seen:?}");
 }

@@ -8,7 +8,6 @@ use Prim.Native.Nat.{ℕ, suc, _+_, _-_, _*_, _%_, _^_, _<_, min}
 use native.Mathlib.Omega.{arith}
 use lib.Dec.{leb, eqb}
 use lib.ListN.{length, drop}
-use lib.Seq.{drop-at}
 use borrow.Author.Tests.{leb-true, le-ltb, le-leb, ne-eqb}
 use Rattle.le.specs.Bytes.{Bytes}
 use Rattle.status.specs.declared.Status.the-variants.{Success, BufferOverflow}
@@ -18,11 +17,11 @@ use Rattle.volume.specs.State.{supported}
 use Rattle.file_record.specs.declared.FileRecord.{FileRecord}
 use Rattle.file_regions.specs.declared.Asked.{Asked}
 use Rattle.file_regions.specs.declared.Region.{Region}
-use Rattle.file_regions.specs.Regions.{askedOf, goodSizes, askedCheck, region, firstRegion, secondDue, secondRegion, regionsOf, isOutside, regionsHeader, regionBytes, listBytes, regionsBytes, answerRegions, regionsAnswer, regionsReply}
+use Rattle.file_regions.specs.Regions.{askedOf, goodSizes, askedCheck, region, firstRegion, secondDue, secondRegion, regionsOf, isOutside, regionBytes, listBytes, regionsBytes, answerRegions, regionsAnswer, regionsReply}
 use Rattle.file_regions.specs.Caller.{inputFor, regionAt}
 use Rattle.file_regions.specs.Again.{behind, nextReply, Again}
-use Rattle.file_regions.proofs.Writing.{length-header, length-region}
-use Rattle.file_regions.proofs.Caller.{asked-back, at-back}
+use Rattle.file_regions.proofs.Writing.{length-region}
+use Rattle.file_regions.proofs.Caller.{asked-back, list-back, at-back}
 use Rattle.file_regions.proofs.Checked.{Passed, past-checks, asked-facts, asked-passes, usage-narrow, first-is, is-due, reply-is, all-given}
 
 -- ---- what a warning says
@@ -50,10 +49,6 @@ two-due eof vdl a room h e = by (secondDue eof vdl a) (secondRegion eof vdl a �
     by false rs k = sym k ∙ h
 
 -- ---- the replies
-
--- what a reply writes behind its header
-list-written : (n : ℕ) (rs : List Region) → drop 16 (regionsBytes n rs) ≡ listBytes rs
-list-written n rs = drop-at (regionsHeader n (length rs)) (listBytes rs) 16 (length-header n (length rs))
 
 -- two regions with too little room
 two-answer : (r q : Region) (room : ℕ) → leb 64 room ≡ false → answerRegions (r ∷ q ∷ []) room ≡ give BufferOverflow (regionsBytes 2 (r ∷ []))
@@ -181,9 +176,9 @@ module _ (v : Volume) (f : FileRecord) (input : List ℕ) (room : ℕ) (b : Byte
   joined : drop 16 (written (regionsReply v f input room)) ++ drop 16 (written (nextReply v f input room)) ≡ drop 16 (written (regionsReply v f input 64))
   joined =
       ap₂ (λ (r q : Reply). drop 16 (written r) ++ drop 16 (written q)) warning next
-      ∙ ap₂ (λ (x y : List ℕ). x ++ y) (list-written 2 (first f a ∷ [])) (list-written 1 (second f a ∷ []))
+      ∙ ap₂ (λ (x y : List ℕ). x ++ y) (list-back 2 (first f a ∷ [])) (list-back 1 (second f a ∷ []))
       ∙ lists-join (first f a) (second f a)
-      ∙ sym (list-written 2 (first f a ∷ second f a ∷ []))
+      ∙ sym (list-back 2 (first f a ∷ second f a ∷ []))
       ∙ sym (ap (λ (r : Reply). drop 16 (written r)) large)
 
 pub again : Again

@@ -18,9 +18,9 @@ use Rattle.file_record.specs.declared.FileRecord.{FileRecord}
 use Rattle.file_regions.specs.declared.Asked.{Asked}
 use Rattle.file_regions.specs.declared.Region.{Region}
 use Rattle.file_regions.specs.Regions.{askedOf, askedCheck, region, firstRegion, secondDue, secondRegion, regionsOf, isOutside, regionsBytes, answerRegions, regionsReply}
-use Rattle.file_regions.specs.Caller.{regionsFrom, regionsIn}
+use Rattle.file_regions.specs.Caller.{regionsFrom, regionsIn, isWhole}
 use Rattle.file_regions.specs.Tiling.{liesIn, usagesOf, usagesIn, endOf, isAsked, usageDue, usagesDue, Tiled, Succeeds, Tiles, firstPart, secondPart, Asks, Split}
-use Rattle.file_regions.proofs.Caller.{Narrow, AllNarrow, in-back}
+use Rattle.file_regions.proofs.Caller.{Narrow, AllNarrow, in-back, whole-back}
 use Rattle.file_regions.proofs.Checked.{Passed, past-checks, asked-facts, asked-passes, usage-narrow, good-sizes, inside, outside-past, past-outside, is-due, few, reply-is, reply-none, all-given}
 
 -- ---- the regions of a range tile it
@@ -86,12 +86,7 @@ module _ (f : FileRecord) (a : Asked) where
   abbrev second : Region
   second = secondRegion (f .eof) (f .valid) a
 
-  -- behind the valid data: one region up to the end
-  covers-behind : f .valid ≤ a .offset → a .offset ≤ f .eof → Covers first (a .offset) (endOf f a) 0
-  unfolding firstRegion
-  covers-behind h k = rw (le-leb (f .valid) (a .offset) h) (record { starts = omega arith; ends = omega arith; used = omega arith })
-
-  -- below its end: the first up to there, or up to the end if that is nearer
+  -- below the end of the valid data: the first up to there, or up to the end of the range if that is nearer
   covers-below : a .offset < f .valid → Covers first (a .offset) (min (f .valid) (a .offset + a .length)) (a .usage)
   unfolding firstRegion
   covers-below h = rw (lt-leb (f .valid) (a .offset) h) (record { starts = omega arith; ends = omega arith; used = omega arith })
@@ -102,6 +97,11 @@ module _ (f : FileRecord) (a : Asked) where
   covers-second h k l =
       let e : first .length ≡ f .valid - a .offset = omega (arith, covers-below h .starts, covers-below h .ends) in
       record { starts = omega arith; ends = omega arith; used = omega arith }
+
+  -- behind the valid data: one region up to the end
+  covers-behind : f .valid ≤ a .offset → a .offset ≤ f .eof → Covers first (a .offset) (endOf f a) 0
+  unfolding firstRegion
+  covers-behind h k = rw (le-leb (f .valid) (a .offset) h) (record { starts = omega arith; ends = omega arith; used = omega arith })
 
   -- none is due if the first goes up to the end
   not-due : f .valid ≤ f .eof → a .offset < f .valid → secondDue (f .eof) (f .valid) a ≡ false → min (f .valid) (a .offset + a .length) ≡ endOf f a
@@ -206,12 +206,19 @@ module _ (v : Volume) (f : FileRecord) (input : List ℕ) (room : ℕ) (narrow :
       by false x y = (x, tt)
 
   -- a reply inside the file gives all regions, and a caller reads them as they are
+  given : isOutside (f .eof) (a .offset) ≡ false → written (regionsReply v f input room) ≡ regionsBytes (length all) all
+  given e = let is = reply-is v f input room p e in ap written is ∙ was-given all room (subst Succeeds is s)
+
   regions-in : isOutside (f .eof) (a .offset) ≡ false → regionsIn (written (regionsReply v f input room)) ≡ all
-  regions-in e =
-      let is = reply-is v f input room p e in
-      ap (λ (r : Reply). regionsIn (written r)) is
-      ∙ ap regionsIn (was-given all room (subst Succeeds is s))
-      ∙ in-back (length all) all (omega (arith, few (f .eof) (f .valid) a)) all-narrow
+  regions-in e = ap regionsIn (given e) ∙ in-back (length all) all (omega (arith, few (f .eof) (f .valid) a)) all-narrow
+
+  reply-whole : isWhole (written (regionsReply v f input room)) ≡ true
+  unfolding isWhole
+  reply-whole = by (isOutside (f .eof) (a .offset)) refl
+    where
+      by : (t : Bool) → isOutside (f .eof) (a .offset) ≡ t → isWhole (written (regionsReply v f input room)) ≡ true
+      by true e = ap (λ (r : Reply). isWhole (written r)) (reply-none v f input room p e)
+      by false e = ap isWhole (given e) ∙ whole-back (length all) all (omega (arith, few (f .eof) (f .valid) a))
 
   reply-tiles : (byte : ℕ) → usagesIn (written (regionsReply v f input room)) byte ≡ usagesDue f a byte
   reply-tiles byte = by (isOutside (f .eof) (a .offset)) refl
@@ -223,12 +230,23 @@ module _ (v : Volume) (f : FileRecord) (input : List ℕ) (room : ℕ) (narrow :
       by false e =
           ap (λ (rs : List Region). usagesOf rs byte) (regions-in e) ∙ regions-tile f a (sizes .0) (inside (f .eof) (a .offset) e) byte
 
+  reply-empty : f .eof ≡ 0 → a .offset ≡ 0 → regionsIn (written (regionsReply v f input room)) ≡ region 0 0 0 ∷ []
+  unfolding isOutside firstRegion secondDue
+  reply-empty h k =
+      let z : f .valid ≡ 0 = omega (arith, sizes .0) in
+      let m : min (a .length) 0 ≡ 0 = omega arith in
+      let o : isOutside (f .eof) (a .offset) ≡ false = rw (h, k) in
+      let q : all ≡ region 0 0 0 ∷ [] = rw (h, k, z, m) in
+      regions-in o ∙ q
+
   tiled : Tiled f a (written (regionsReply v f input room))
   tiled =
       record {
+        whole = reply-whole;
         tiles = reply-tiles;
         outside = λ h byte. reply-tiles byte ∙ none-due f a h byte;
-        empty = λ h k. ap written (reply-none v f input room p (past-outside (f .eof) (a .offset) h k));
+        empty = reply-empty;
+        none = λ h k. ap written (reply-none v f input room p (past-outside (f .eof) (a .offset) h k));
       }
 
 pub tiles : Tiles
@@ -325,7 +343,7 @@ module _ (v : Volume) (f : FileRecord) (a : Asked) (m room : ℕ) (whole first s
 
   past : Succeeds (regionsReply v f whole room) → f .eof ≤ m
       → (written (regionsReply v f second room) ≡ []) × ((byte : ℕ) → usagesIn (written (regionsReply v f second room)) byte ≡ [])
-  past s e = let t = asked-tiled v f room h second (secondPart a m) y (apart s .1) in (t .empty e (omega arith), t .outside e)
+  past s e = let t = asked-tiled v f room h second (secondPart a m) y (apart s .1) in (t .none e (omega arith), t .outside e)
 
 pub split : Split
 split v f a m room whole first second w x y h k l =

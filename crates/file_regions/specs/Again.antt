@@ -13,7 +13,7 @@ use Rattle.file_regions.specs.declared.Region.{Region}
 use Rattle.file_regions.specs.Regions.{askedOf, regionsReply}
 use Rattle.file_regions.specs.Caller.{inputFor, regionAt}
 
--- what is left of a range behind a region of it
+-- what is left of a range behind the region that it begins with
 abbrev pub behind : Asked → Region → Asked
 behind a r = record { offset = r .offset + r .length; length = a .length - r .length; usage = a .usage }
 

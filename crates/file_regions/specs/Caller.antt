@@ -1,6 +1,9 @@
 -- The caller's side of a region query: the input for a range, and the regions in the bytes of a reply.
+use mathlib.Core.Bool.{Bool, _||_}
 use mathlib.Core.List.{List, [], _∷_}
-use Prim.Native.Nat.{ℕ, zero, suc, _+_}
+use Prim.Native.Nat.{ℕ, zero, suc, _+_, _*_}
+use lib.Dec.{eqb}
+use lib.ListN.{length}
 use Rattle.le.specs.Numbers.{numberAt, encode}
 use Rattle.file_regions.specs.declared.Asked.{Asked}
 use Rattle.file_regions.specs.declared.Region.{Region}
@@ -19,6 +22,14 @@ unfoldable pub regionsFrom : List ℕ → ℕ → ℕ → List Region
 regionsFrom reply at zero = []
 regionsFrom reply at (suc n) = regionAt reply at ∷ regionsFrom reply (at + 24) n
 
--- those behind the header, as many as the entry count says; a reply without bytes has none
+-- how many it has, by its entry count; none if it has no bytes
+abbrev pub entriesIn : List ℕ → ℕ
+entriesIn reply = numberAt reply 8 4
+
+-- those behind the header
 abbrev pub regionsIn : List ℕ → List Region
-regionsIn reply = regionsFrom reply 16 (numberAt reply 8 4)
+regionsIn reply = regionsFrom reply 16 (entriesIn reply)
+
+-- a reply has no bytes, or those of its header and of just so many regions
+unfoldable pub isWhole : List ℕ → Bool
+isWhole reply = eqb (length reply) 0 || eqb (length reply) (16 + 24 * entriesIn reply)

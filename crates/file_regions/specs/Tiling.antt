@@ -12,8 +12,8 @@ use Rattle.volume.specs.declared.Volume.{Volume}
 use Rattle.file_record.specs.declared.FileRecord.{FileRecord}
 use Rattle.file_regions.specs.declared.Asked.{Asked}
 use Rattle.file_regions.specs.declared.Region.{Region}
-use Rattle.file_regions.specs.Regions.{askedOf, regionsReply}
-use Rattle.file_regions.specs.Caller.{regionsIn}
+use Rattle.file_regions.specs.Regions.{askedOf, region, regionsReply}
+use Rattle.file_regions.specs.Caller.{regionsIn, isWhole}
 
 -- ---- what regions say of a byte of the file
 
@@ -51,12 +51,15 @@ usagesDue f a byte = cond (isAsked f a byte) (usageDue f a byte ∷ []) []
 
 -- the reply to one who asked for a range
 pub record Tiled (f : FileRecord) (a : Asked) (reply : List ℕ) : Type 0 where
-  -- each byte that is asked for lies in one region, with the usage due, and no other byte in any
+  -- the regions that are decoded are in the reply, and nothing behind them
+  pub whole : isWhole reply ≡ true
+  -- each byte that is asked for lies in one of them, with the usage due, and no other byte in any
   pub tiles : (byte : ℕ) → usagesIn reply byte ≡ usagesDue f a byte
-  -- a range that begins at or past Eof gives no byte a usage
+  -- where the range begins at or past Eof, no byte has a usage
   pub outside : f .eof ≤ a .offset → (byte : ℕ) → usagesIn reply byte ≡ []
-  -- nor has it reply bytes, but for that from 0 on in an empty file, which has one region of length 0
-  pub empty : f .eof ≤ a .offset → 0 < a .offset → reply ≡ []
+  -- nor are there reply bytes, but for a range from 0 on in an empty file: one region of length 0
+  pub none : f .eof ≤ a .offset → 0 < a .offset → reply ≡ []
+  pub empty : f .eof ≡ 0 → a .offset ≡ 0 → regionsIn reply ≡ region 0 0 0 ∷ []
 
 abbrev pub Succeeds : Reply → Type 0
 Succeeds reply = answer reply .status ≡ Success
