@@ -260,8 +260,8 @@ type Case = (FileRecord, Region);
 /// Usages to ask for: all have flag 1.
 const USAGES: [u32; 3] = [1, 3, u32::MAX];
 
-/// Every file of at most nine bytes, with the empty input and every range that
-/// begins up to two bytes past Eof.
+/// Every file of at most nine bytes, with the empty input and the ranges that
+/// begin up to two bytes past Eof and are up to three bytes longer than the file.
 fn small_cases() -> Vec<Case> {
     let mut cases = Vec::new();
     for eof in 0..=9 {
@@ -325,6 +325,8 @@ fn ask(file: &FileRecord, range: Region, room: usize) -> Option<Vec<Region>> {
     assert_eq!(answer.status, Status::Success, "{file:?} {range:?} {room}");
     let regions = regions_in(&reply);
     if range.0 < file.eof {
+        // The reply ends with its last region, and no region is empty.
+        assert_eq!(reply.len(), 16 + 24 * regions.len(), "{file:?} {range:?}");
         assert!(regions.iter().all(|region| region.1 > 0), "{regions:?}");
         return Some(regions);
     }
@@ -449,6 +451,7 @@ fn asking_in_two_parts_gives_the_same() {
         let seen = check_parts(&cases);
         println!("{} ranges, {seen:?}", cases.len());
         assert!(seen.twos > 0);
+        // The cases have splits on both sides of Eof, and ranges that begin there.
         assert!(0 < seen.across && seen.across < seen.past && seen.past < seen.splits);
     }
 }
@@ -457,7 +460,10 @@ fn asking_in_two_parts_gives_the_same() {
 fn succeeds(file: &FileRecord, range: Region) -> bool {
     let (answer, reply) = query(file, &asking(range), 64);
     let success = answer.status == Status::Success;
-    assert!(success || answer.status.is_refusal() && reply.is_empty());
+    assert!(
+        success || answer.status.is_refusal() && reply.is_empty(),
+        "{file:?} {range:?}: {answer:?}"
+    );
     success
 }
 

@@ -176,9 +176,9 @@ module _ (v : Volume) (f : FileRecord) (input : List ℕ) (room : ℕ) (b : Byte
   joined : drop 16 (written (regionsReply v f input room)) ++ drop 16 (written (nextReply v f input room)) ≡ drop 16 (written (regionsReply v f input 64))
   joined =
       ap₂ (λ (r q : Reply). drop 16 (written r) ++ drop 16 (written q)) warning next
-      ∙ ap₂ (λ (x y : List ℕ). x ++ y) (list-back 2 (first f a ∷ [])) (list-back 1 (second f a ∷ []))
+      ∙ ap₂ (λ (x y : List ℕ). x ++ y) (list-back 2 1 (first f a ∷ [])) (list-back 1 1 (second f a ∷ []))
       ∙ lists-join (first f a) (second f a)
-      ∙ sym (list-back 2 (first f a ∷ second f a ∷ []))
+      ∙ sym (list-back 2 2 (first f a ∷ second f a ∷ []))
       ∙ sym (ap (λ (r : Reply). drop 16 (written r)) large)
 
 pub again : Again

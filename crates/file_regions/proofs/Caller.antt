@@ -52,8 +52,8 @@ regions-back (r ∷ rs) s at e p =
     ap₂ (λ (q : Region) (qs : List Region). q ∷ qs) head (regions-back rs s (at + 24) next (p .1))
 
 -- what stands behind the header of a reply
-pub list-back : (n : ℕ) (rs : List Region) → drop 16 (regionsBytes n rs) ≡ listBytes rs
-list-back n rs = drop-at (regionsHeader n (length rs)) (listBytes rs) 16 (length-header n (length rs))
+pub list-back : (total given : ℕ) (rs : List Region) → drop 16 (regionsHeader total given ++ listBytes rs) ≡ listBytes rs
+list-back total given rs = drop-at (regionsHeader total given) (listBytes rs) 16 (length-header total given)
 
 -- the regions of a reply
 count-back : (n : ℕ) (rs : List Region) → length rs < 2 ^ 32 → entriesIn (regionsBytes n rs) ≡ length rs
@@ -61,7 +61,7 @@ unfolding numberAt encode le
 count-back n rs h = unle-le 4 (length rs) h
 
 pub in-back : (n : ℕ) (rs : List Region) → length rs < 2 ^ 32 → AllNarrow rs → regionsIn (regionsBytes n rs) ≡ rs
-in-back n rs h p = ap (regionsFrom (regionsBytes n rs) 16) (count-back n rs h) ∙ regions-back rs (regionsBytes n rs) 16 (list-back n rs) p
+in-back n rs h p = ap (regionsFrom (regionsBytes n rs) 16) (count-back n rs h) ∙ regions-back rs (regionsBytes n rs) 16 (list-back n (length rs) rs) p
 
 -- which fill it
 length-list : (rs : List Region) → length (listBytes rs) ≡ 24 * length rs
@@ -85,4 +85,4 @@ whole-back n rs h =
 pub at-back : (n : ℕ) (r : Region) (rs : List Region) → Narrow r → regionAt (regionsBytes n (r ∷ rs)) 16 ≡ r
 unfolding listBytes
 at-back n r rs p =
-    sym (region-drop (regionsBytes n (r ∷ rs)) 16) ∙ ap (λ (l : List ℕ). regionAt l 0) (list-back n (r ∷ rs)) ∙ first-back r (listBytes rs) p
+    sym (region-drop (regionsBytes n (r ∷ rs)) 16) ∙ ap (λ (l : List ℕ). regionAt l 0) (list-back n (length (r ∷ rs)) (r ∷ rs)) ∙ first-back r (listBytes rs) p

@@ -30,6 +30,6 @@ entriesIn reply = numberAt reply 8 4
 abbrev pub regionsIn : List ℕ → List Region
 regionsIn reply = regionsFrom reply 16 (entriesIn reply)
 
--- a reply has no bytes, or those of its header and of just so many regions
+-- a reply has no bytes, or those of its header and of as many regions as its entry count says
 unfoldable pub isWhole : List ℕ → Bool
 isWhole reply = eqb (length reply) 0 || eqb (length reply) (16 + 24 * entriesIn reply)

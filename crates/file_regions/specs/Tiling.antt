@@ -95,7 +95,7 @@ pub record Splits (f : FileRecord) (m : ℕ) (whole first second : Reply) : Type
   -- and where the second begins at or past Eof it has no bytes, and gives no byte a usage
   pub past : Succeeds whole → f .eof ≤ m → (written second ≡ []) × ((byte : ℕ) → usagesIn (written second) byte ≡ [])
 
--- with 64 bytes of output and more, a range may be split anywhere inside
+-- with 64 bytes of output or more, a range may be split anywhere inside
 abbrev pub Split : Type 0
 Split =
     (v : Volume) (f : FileRecord) (a : Asked) (m room : ℕ) (whole first second : List ℕ)
