@@ -90,8 +90,8 @@ fn regions_at_the_edges_of_the_room() {
     let one = [small, (Success, 40), (Success, 40), (Success, 40)];
     let two = [small, warned, warned, (Success, 64)];
     // Eof, Vdl, the range, the answer for each room, the regions due.
-    type Case = (u64, u64, Region, [(Status, usize); 4], &'static [Region]);
-    let table: [Case; 20] = [
+    type Row = (u64, u64, Region, [(Status, usize); 4], &'static [Region]);
+    let table: [Row; 20] = [
         // A second region is due.
         (100, 60, WHOLE, two, &[(0, 60, 1), (60, 40, 0)]),
         (100, 60, (0, 61, 1), two, &[(0, 60, 1), (60, 1, 0)]),
@@ -134,124 +134,6 @@ fn regions_at_the_edges_of_the_room() {
             );
         }
     }
-}
-
-/// Asks for a range of a file with `room` bytes of output. As long as the answer
-/// is the warning, asks again for what is behind the last region. Gives the
-/// regions and the number of calls.
-fn ask_to_the_end(file: &FileRecord, range: Region, room: usize) -> (Vec<Region>, usize) {
-    let mut regions = Vec::new();
-    let mut rest = range;
-    // Two regions at most are due, and a call that warns gives one.
-    for calls in 1..=2 {
-        let (answer, reply) = query(file, &asking(rest), room);
-        regions.extend(regions_in(&reply));
-        if answer.status == Status::Success {
-            return (regions, calls);
-        }
-        assert_eq!(answer.status, Status::BufferOverflow);
-        let (offset, length, usage) = rest;
-        let last: &Region = regions.last().expect("a warning comes with a region");
-        let next = last.0 + last.1;
-        rest = (next, length - (next - offset), usage);
-        assert!(rest.1 > 0, "{file:?} {range:?}: nothing is left to ask for");
-    }
-    panic!("{file:?} {range:?}: two calls with {room} bytes did not reach the end");
-}
-
-/// The regions that the model gives in one call with room for two.
-fn regions_by_the_model(file: &FileRecord, range: Region) -> Vec<Region> {
-    let (volume, file) = (model_volume(&regions_only()), model_file(file));
-    let mut output = [0; 64];
-    let (status, count) = model::query_file_regions(&volume, &file, &asking(range), &mut output);
-    assert_eq!(status, model::status::SUCCESS);
-    regions_in(&output[..count])
-}
-
-#[test]
-fn asking_again_ends() {
-    let mut cases = Vec::new();
-    for eof in 0..=12 {
-        for valid in 0..=eof {
-            let file = sized(eof, valid);
-            cases.push((file, WHOLE));
-            for offset in 0..=eof + 2 {
-                cases.extend((1..=eof + 2).map(|length| (file, (offset, length, 3))));
-            }
-        }
-    }
-    for eof in [TOP - 1, TOP] {
-        for valid in [0, 1, TOP / 2, eof - 1, eof] {
-            let file = sized(eof, valid);
-            cases.push((file, WHOLE));
-            for offset in [0, 1, TOP / 2 - 1, TOP / 2, TOP - 3, TOP - 2] {
-                let lengths = [1, 2, TOP - 1 - offset, TOP - offset];
-                cases.extend(lengths.map(|length| (file, (offset, length, 3))));
-            }
-        }
-    }
-
-    // The model says in one call with 64 bytes what is due. The last room is the
-    // same call by the library.
-    for room in 40..=64 {
-        let mut twice = 0;
-        for (file, range) in &cases {
-            let due = regions_by_the_model(file, *range);
-            let (regions, calls) = ask_to_the_end(file, *range, room);
-            assert_eq!(regions, due, "{file:?} {range:?} {room}");
-            // A second call is needed just where a second region had no room.
-            let expected = if room < 64 && due.len() == 2 { 2 } else { 1 };
-            assert_eq!(calls, expected, "{file:?} {range:?} {room}");
-            twice += usize::from(calls == 2);
-        }
-        println!(
-            "room {room}: {twice} of {} ranges took two calls",
-            cases.len()
-        );
-        assert_eq!(twice > 0, room < 64);
-    }
-}
-
-/// The byte behind a region. The sum may need more than 64 bits.
-fn end(region: Region) -> u128 {
-    u128::from(region.0) + u128::from(region.1)
-}
-
-/// What is due to a byte when a range of a file is asked for: one usage if it is
-/// a byte of the file and of the range, else none.
-fn due(file: &FileRecord, range: Region, byte: u128) -> Vec<u32> {
-    let (offset, _, usage) = range;
-    if byte < offset.into() || byte >= end(range).min(file.eof.into()) {
-        return Vec::new();
-    }
-    if byte < file.valid.into() {
-        return vec![usage];
-    }
-    vec![0]
-}
-
-/// The usages that some regions give to a byte: one for each that it lies in.
-fn usages(regions: &[Region], byte: u128) -> Vec<u32> {
-    let lies_in = |region: &&Region| byte >= region.0.into() && byte < end(**region);
-    let regions = regions.iter().filter(lies_in);
-    regions.map(|(_, _, usage)| *usage).collect()
-}
-
-/// The first places of a file, which are all that the ranges of a small one
-/// reach, and those around each edge of the file and of some ranges. A byte's
-/// usages change at such an edge only, so no byte is missed in a large file.
-fn places(file: &FileRecord, ranges: &[Region]) -> Vec<u128> {
-    let mut edges = vec![file.valid.into(), file.eof.into(), TOP.into()];
-    for range in ranges {
-        edges.extend([range.0.into(), end(*range)]);
-    }
-    let mut places: Vec<u128> = (0..24).collect();
-    for edge in edges {
-        places.extend([edge.saturating_sub(1), edge, edge + 1]);
-    }
-    places.sort_unstable();
-    places.dedup();
-    places
 }
 
 /// A file and a range to ask for.
@@ -313,6 +195,104 @@ fn between(edges: Vec<u64>) -> Vec<(u64, u64)> {
         ranges.extend(behind.iter().map(|end| (*offset, end - offset)));
     }
     ranges
+}
+
+/// Asks for a range of a file with `room` bytes of output. As long as the answer
+/// is the warning, asks again for what is behind the last region. Gives the
+/// regions and the number of calls.
+fn ask_to_the_end(file: &FileRecord, range: Region, room: usize) -> (Vec<Region>, usize) {
+    let mut regions = Vec::new();
+    let mut rest = range;
+    // Two regions at most are due, and a call that warns gives one.
+    for calls in 1..=2 {
+        let (answer, reply) = query(file, &asking(rest), room);
+        regions.extend(regions_in(&reply));
+        if answer.status == Status::Success {
+            return (regions, calls);
+        }
+        assert_eq!(answer.status, Status::BufferOverflow);
+        let (offset, length, usage) = rest;
+        let last: &Region = regions.last().expect("a warning comes with a region");
+        let next = last.0 + last.1;
+        rest = (next, length - (next - offset), usage);
+        assert!(rest.1 > 0, "{file:?} {range:?}: nothing is left to ask for");
+    }
+    panic!("{file:?} {range:?}: two calls with {room} bytes did not reach the end");
+}
+
+/// The regions that the model gives in one call with room for two.
+fn regions_by_the_model(file: &FileRecord, range: Region) -> Vec<Region> {
+    let (volume, file) = (model_volume(&regions_only()), model_file(file));
+    let mut output = [0; 64];
+    let (status, count) = model::query_file_regions(&volume, &file, &asking(range), &mut output);
+    assert_eq!(status, model::status::SUCCESS);
+    regions_in(&output[..count])
+}
+
+#[test]
+fn asking_again_ends() {
+    let cases = [small_cases(), large_cases()].concat();
+    // The model says in one call with 64 bytes what is due. The last room is the
+    // same call by the library.
+    for room in 40..=64 {
+        let mut twice = 0;
+        for (file, range) in &cases {
+            let due = regions_by_the_model(file, *range);
+            let (regions, calls) = ask_to_the_end(file, *range, room);
+            assert_eq!(regions, due, "{file:?} {range:?} {room}");
+            // A second call is needed just where a second region had no room.
+            let expected = if room < 64 && due.len() == 2 { 2 } else { 1 };
+            assert_eq!(calls, expected, "{file:?} {range:?} {room}");
+            twice += usize::from(calls == 2);
+        }
+        println!(
+            "room {room}: {twice} of {} ranges took two calls",
+            cases.len()
+        );
+        assert_eq!(twice > 0, room < 64);
+    }
+}
+
+/// The byte behind a region. The sum may need more than 64 bits.
+fn end(region: Region) -> u128 {
+    u128::from(region.0) + u128::from(region.1)
+}
+
+/// What is due to a byte when a range of a file is asked for: one usage if it is
+/// a byte of the file and of the range, else none.
+fn due(file: &FileRecord, range: Region, byte: u128) -> Vec<u32> {
+    let (offset, _, usage) = range;
+    if byte < offset.into() || byte >= end(range).min(file.eof.into()) {
+        return Vec::new();
+    }
+    if byte < file.valid.into() {
+        return vec![usage];
+    }
+    vec![0]
+}
+
+/// The usages that some regions give to a byte: one for each that it lies in.
+fn usages(regions: &[Region], byte: u128) -> Vec<u32> {
+    let lies_in = |region: &&Region| byte >= region.0.into() && byte < end(**region);
+    let regions = regions.iter().filter(lies_in);
+    regions.map(|(_, _, usage)| *usage).collect()
+}
+
+/// The first places of a file, which are all that the ranges of a small one
+/// reach, and those around each edge of the file and of some ranges. A byte's
+/// usages change at such an edge only, so no byte is missed in a large file.
+fn places(file: &FileRecord, ranges: &[Region]) -> Vec<u128> {
+    let mut edges = vec![file.valid.into(), file.eof.into(), TOP.into()];
+    for range in ranges {
+        edges.extend([range.0.into(), end(*range)]);
+    }
+    let mut places: Vec<u128> = (0..24).collect();
+    for edge in edges {
+        places.extend([edge.saturating_sub(1), edge, edge + 1]);
+    }
+    places.sort_unstable();
+    places.dedup();
+    places
 }
 
 /// The library's regions for a range, or nothing where it warns, as it may do

@@ -7,7 +7,7 @@ use Prim.Native.Nat.{ℕ, _<_}
 use lib.Dec.{lit<, lit≤}
 use lib.ListN.{replicate}
 use Rattle.le.specs.Numbers.{le, unle, numberAt, encode}
-use Rattle.le.proofs.Runs.{below, below-bytes}
+use Rattle.le.proofs.Runs.{allBytes, are-bytes}
 use Rattle.status.specs.declared.Status.the-variants.{Success, BufferOverflow, InvalidParameter}
 use Rattle.status.specs.Reply.{Reply, refuse, give, answer, written}
 use Rattle.volume.specs.declared.Volume.{Volume}
@@ -121,13 +121,13 @@ pub parts-right : map (λ (e : Part). partOf (e .0)) parts ≡ parts
 unfolding le unle numberAt encode askedOf goodSizes askedCheck regionsCheck firstRegion secondDue secondRegion isOutside listBytes answerRegions regionsAnswer regionsReply regionsFrom liesIn usagesOf
 parts-right = refl
 
--- what the theorems want of them holds
+-- they meet the hypotheses of the theorems
 pub tiles-met : Tiled (file 6 4) (part 2 9) (written (partReply (part 2 9)))
 unfolding le unle numberAt encode askedOf goodSizes askedCheck regionsCheck firstRegion secondDue secondRegion isOutside listBytes answerRegions regionsAnswer regionsReply
-tiles-met = tiles volume (file 6 4) (partAsks (part 2 9)) 64 (below-bytes (partAsks (part 2 9)) refl) refl
+tiles-met = tiles volume (file 6 4) (partAsks (part 2 9)) 64 (are-bytes (partAsks (part 2 9)) refl) refl
 
-part-asks : (a : Asked) → below (partAsks a) ≡ true → askedOf (partAsks a) ≡ a → Asks (partAsks a) a
-part-asks a e q = record { bytes = below-bytes (partAsks a) e; long = refl; range = q }
+part-asks : (a : Asked) → allBytes (partAsks a) ≡ true → askedOf (partAsks a) ≡ a → Asks (partAsks a) a
+part-asks a e q = record { bytes = are-bytes (partAsks a) e; long = refl; range = q }
 
 part-splits : (m : ℕ) → 2 < m → m < 11 → Asks (partAsks (firstPart (part 2 9) m)) (firstPart (part 2 9) m)
     → Asks (partAsks (secondPart (part 2 9) m)) (secondPart (part 2 9) m)

@@ -1,4 +1,4 @@
--- Region replies tile the file: what a caller decodes from their bytes, and what that says of each byte of the file.
+-- Region replies tile the file: what they say of each byte of it, what is due to that byte, and that the two agree.
 use mathlib.Core.Path.{_≡_}
 use mathlib.Core.Bool.{Bool, true, cond, _&&_, _||_}
 use mathlib.Core.List.{List, [], _∷_, _++_}
@@ -36,6 +36,7 @@ usagesIn reply byte = usagesOf (regionsIn reply) byte
 abbrev pub endOf : FileRecord → Asked → ℕ
 endOf f a = min (a .offset + a .length) (f .eof)
 
+-- from the offset up to there
 unfoldable pub isAsked : FileRecord → Asked → ℕ → Bool
 isAsked f a byte = leb (a .offset) byte && ltb byte (endOf f a)
 
@@ -53,7 +54,7 @@ usagesDue f a byte = cond (isAsked f a byte) (usageDue f a byte ∷ []) []
 pub record Tiled (f : FileRecord) (a : Asked) (reply : List ℕ) : Type 0 where
   -- the regions that are decoded are in the reply, and nothing behind them
   pub whole : isWhole reply ≡ true
-  -- each byte that is asked for lies in one of them, with the usage due, and no other byte in any
+  -- each byte that is asked for lies in exactly one of them, with the usage due, and no other byte in any
   pub tiles : (byte : ℕ) → usagesIn reply byte ≡ usagesDue f a byte
   -- where the range begins at or past Eof, no byte has a usage
   pub outside : f .eof ≤ a .offset → (byte : ℕ) → usagesIn reply byte ≡ []

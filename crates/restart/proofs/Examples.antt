@@ -10,7 +10,7 @@ use lib.Dec.{lit<}
 use lib.ListN.{take, getD, set, replicate}
 use Rattle.le.specs.Numbers.{le, unle, numberAt, encode, decode, total}
 use Rattle.le.specs.Bytes.{begins}
-use Rattle.le.proofs.Runs.{below-bytes}
+use Rattle.le.proofs.Runs.{are-bytes}
 use Rattle.status.specs.declared.Status.{Status}
 use Rattle.status.specs.declared.Status.the-variants.{Success, InvalidParameter, InvalidDeviceRequest, UnknownRevision, DiskFull, FileCorruptError, JournalDeleteInProgress}
 use Rattle.status.specs.Reply.{give}
@@ -68,7 +68,7 @@ one-saved = refl
 
 typed : TypedJournal saved ring
 unfolding ring
-typed = (below-bytes ring refl, lit< tt)
+typed = (are-bytes ring refl, lit< tt)
 
 -- ---- it is there again on an idle volume, whatever its ring held
 
@@ -174,7 +174,7 @@ renamed = set oneBytes 8 9
 
 pub one-word : NeverLoads renamed
 one-word =
-    restart .word oneBytes renamed 2 one-bytes (below-bytes renamed refl) is-image
+    restart .word oneBytes renamed 2 one-bytes (are-bytes renamed refl) is-image
     (record { size = refl; front = refl; back = refl; other = λ z. let d : _≡_ {A = ℕ} 9 5 = ap (λ (s : List ℕ). getD s 8 0) z in omega arith })
 
 -- ---- the checks
