@@ -207,7 +207,7 @@ uint32_t usn_finish(usn_volume *volume);
  * the ring and no others. Stores first and last, and in *usn, the file's Usn, the record's Usn, which is the new LastUsn.
  * Skipped, USN_SUCCESS with nothing changed: no support for the journal, no active journal, or reason 0.
  * FILE_CORRUPT_ERROR for a ring that is not sound; INVALID_PARAMETER for a name that is odd, empty or above USN_NAME_MAX bytes;
- * DISK_FULL if the record is longer than the capacity or LastUsn would reach USN_POSITION_LIMIT.
+ * DISK_FULL if LastUsn would reach USN_POSITION_LIMIT.
  */
 uint32_t usn_post(usn_volume *volume, uint8_t *ring, size_t ring_size, usn_change change,
                   const uint8_t *name, size_t name_size, uint64_t *usn);

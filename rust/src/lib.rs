@@ -493,8 +493,7 @@ impl Volume {
     /// Refusals, in order: [`Status::FileCorruptError`] for an unsound ring,
     /// wrong positions, a wrong capacity or a ring of another length;
     /// [`Status::InvalidParameter`] for a name that is odd, empty or above 510
-    /// bytes; [`Status::DiskFull`] if the record is longer than the ring or
-    /// `last` would pass 2^63 - 1.
+    /// bytes; [`Status::DiskFull`] if `last` would pass 2^63 - 1.
     #[inline]
     pub fn post(&mut self, ring: &mut [u8], change: &Change, name: &[u8], usn: &mut u64) -> Status {
         // SAFETY: each pointer and length comes from a live borrow; those of

@@ -2,14 +2,14 @@
 -- Assumes nothing.
 use mathlib.Core.Path.{_≡_, refl, sym, ap, ap₂, _∙_, subst, subst₂}
 use mathlib.Core.Logic.{inl, inr}
-use mathlib.Core.Bool.{Bool, true, false, not, cond, and-false, _&&_, _||_}
+use mathlib.Core.Bool.{Bool, true, false, not, cond, _&&_, _||_}
 use mathlib.Core.Option.{Option, none, some}
 use mathlib.Core.List.{List, [], _∷_, _++_, append-assoc, append-nil, nil≢cons}
 use Prim.Native.Nat.{ℕ, zero, suc, _+_, _-_, _%_, _^_, _≤_, _<_}
 use native.Mathlib.Omega.{arith}
 use lib.Dec.{leb, ltb, eqb}
 use lib.ListN.{length}
-use borrow.Author.Tests.{ltb-true, eqb-true, le-leb, eq-eqb}
+use borrow.Author.Tests.{ltb-true, eqb-true, eq-eqb}
 use Rattle.le.proofs.Runs.{and-left, and-right}
 use Rattle.status.specs.declared.Status.{Status}
 use Rattle.status.specs.declared.Status.the-variants.{Success, InvalidParameter, FileCorruptError, JournalDeleteInProgress, JournalNotActive, DiskFull}
@@ -244,35 +244,24 @@ module _ (j : Journal) (h : History) (m : Sim j h) (l : Live j h) (v : h .live �
   skipped-live : skipped (j .volume) c ≡ eqb (c .reason) 0
   skipped-live = rw (l .supported, l .active)
 
-  check-live : postCheck (j .volume) (j .ring) name
-      ≡ else (unless (postedName name) InvalidParameter) (unless (leb (recordLength V3 (length name)) (h .capacity) && ltb (endWith h name) (2 ^ 63)) DiskFull)
+  check-live : postCheck (j .volume) (j .ring) name ≡ else (unless (postedName name) InvalidParameter) (unless (ltb (endWith h name) (2 ^ 63)) DiskFull)
   unfolding postCheck
   check-live =
-      ap (λ (x : Bool). else (unless x FileCorruptError) (else (unless (postedName name) InvalidParameter)
-      (unless (leb (recordLength V3 (length name)) (j .volume .capacity) && ltb (endOf (j .volume) name) (2 ^ 63)) DiskFull))) (sound-live j h m l)
-      ∙ ap₂ (λ (x y : ℕ). else (unless (postedName name) InvalidParameter)
-      (unless (leb (recordLength V3 (length name)) x && ltb (y + recordLength V3 (length name)) (2 ^ 63)) DiskFull)) (l .capacity) (l .last)
-
-  name-fits : postedName name ≡ true → leb (recordLength V3 (length name)) (h .capacity) ≡ true
-  unfolding postedName
-  name-fits q =
-      le-leb (recordLength V3 (length name)) (h .capacity)
-      (omega (arith, short name (and-left (goodName name) _ q), capacity-facts (h .capacity) (m .shape .capacity)))
+      ap₂ (λ (x : Bool) (y : ℕ). else (unless x FileCorruptError) (else (unless (postedName name) InvalidParameter)
+      (unless (ltb (y + recordLength V3 (length name)) (2 ^ 63)) DiskFull))) (sound-live j h m l) (l .last)
 
   live-post : {A : Type 0} (x y : A) → leaves (verdict (j .volume) (j .ring) c name) x y ≡ cond (isPosted h c name) y x
   unfolding verdict
   live-post {A} x y =
       ap₂ (λ (z : Bool) (o : Option Status). leaves (cond z Skip (checked o)) x y) skipped-live check-live
-      ∙ go (eqb (c .reason) 0) (postedName name) (ltb (endWith h name) (2 ^ 63)) refl
+      ∙ go (eqb (c .reason) 0) (postedName name) (ltb (endWith h name) (2 ^ 63))
       ∙ ap (λ (z : Bool). cond z y x) (sym (posted-live h c name v))
     where
-      go : (z n e : Bool) → postedName name ≡ n
-          → leaves (cond z Skip (checked (else (unless n InvalidParameter) (unless (leb (recordLength V3 (length name)) (h .capacity) && e) DiskFull)))) x y
-          ≡ cond (not z && (n && e)) y x
-      go true n e q = refl
-      go false false e q = refl
-      go false true true q = ap (λ (z : Bool). leaves (checked (unless (z && true) DiskFull)) x y) (name-fits q)
-      go false true false q = ap (λ (z : Bool). leaves (checked (unless z DiskFull)) x y) (and-false (leb (recordLength V3 (length name)) (h .capacity)))
+      go : (z n e : Bool) → leaves (cond z Skip (checked (else (unless n InvalidParameter) (unless e DiskFull)))) x y ≡ cond (not z && (n && e)) y x
+      go true n e = refl
+      go false false e = refl
+      go false true true = refl
+      go false true false = refl
 
 -- ---- one effect
 
