@@ -1,5 +1,5 @@
-//! Posts of names of every length: a record fits any ring, and only the limit of
-//! the positions refuses one.
+//! Posts of names of every length: the record fits the ring, and only the limit
+//! of the positions refuses one.
 
 mod common;
 
@@ -10,18 +10,6 @@ use lanhduxe::{Change, Status, Volume};
 /// Every length that a name can have.
 fn name_lengths() -> impl Iterator<Item = usize> {
     (2..=510).step_by(2)
-}
-
-/// A name of random code units: no zero, no slash and no backslash.
-fn name(rng: &mut Rng, length: usize) -> Vec<u8> {
-    let mut name = Vec::with_capacity(length);
-    while name.len() < length {
-        let unit = rng.draw() as u16;
-        if ![0, 0x2F, 0x5C].contains(&unit) {
-            name.extend(unit.to_le_bytes());
-        }
-    }
-    name
 }
 
 /// A change with a reason, so that its post is not skipped.
@@ -104,7 +92,7 @@ fn turn(rng: &mut Rng, capacity: u64) -> u64 {
     rng.pick(&[0, 1, any, any]) * capacity
 }
 
-/// What the first test counts.
+/// What the tests of three posts count.
 struct Run {
     rng: Rng,
     posts: u64,
@@ -115,7 +103,7 @@ impl Run {
     /// Three posts to a journal that begins at a position.
     fn three(&mut self, ring: &mut Ring, start: u64, length: usize) {
         ring.fill(&mut self.rng);
-        let name = name(&mut self.rng, length);
+        let name = self.rng.bytes(length);
         let record = record_length(3, length) as u64;
         let mut volume = created(ring.capacity, start);
         for number in 1..=3 {
@@ -153,7 +141,7 @@ impl Run {
 ///   88 + 2 * 33.
 /// - None in the other two.
 #[test]
-fn a_record_of_any_name_fits_any_ring() {
+fn a_record_of_any_name_fits_the_ring() {
     let mut run = Run {
         rng: Rng::new("fits"),
         posts: 0,
@@ -172,6 +160,25 @@ fn a_record_of_any_name_fits_any_ring() {
     // 128 and 129 places in the two smallest rings, 13 in each of the others.
     assert_eq!(run.posts, 3 * 255 * (128 + 129 + 3 * 13));
     assert_eq!(run.dropped, 162 * 128 + 158 * 129 + 154 * 13);
+}
+
+/// A record of the longest name is 592 bytes, so that of three a ring below 1,184
+/// bytes keeps one, and one below 1,776 two: 20 and 74 of the 8,065 capacities.
+#[test]
+fn the_longest_name_fits_every_ring() {
+    let mut run = Run {
+        rng: Rng::new("longest"),
+        posts: 0,
+        dropped: 0,
+    };
+    for capacity in (1024..=65_536).step_by(8) {
+        let place = 8 * run.rng.below(capacity / 8);
+        let start = turn(&mut run.rng, capacity) + place;
+        run.three(&mut Ring::new(capacity), start, 510);
+    }
+    println!("longest: {} posts, {} dropped", run.posts, run.dropped);
+    assert_eq!(run.posts, 3 * 8065);
+    assert_eq!(run.dropped, 2 * 20 + 74);
 }
 
 /// What a post to an empty journal should leave: its status, the file's Usn and
@@ -236,7 +243,7 @@ fn disk_full_is_for_the_last_position_alone() {
         for length in name_lengths() {
             ring.fill(&mut rng);
             let mut model_ring = ring.library.clone();
-            let name = name(&mut rng, length);
+            let name = rng.bytes(length);
             for step in 1..=160 {
                 let last = NEGATIVE - 8 * step;
                 match post_to_both(&mut rng, &mut ring, &mut model_ring, last, &name) {

@@ -13,7 +13,7 @@ pub const INVALID_DEVICE_REQUEST: u32 = 0xC000_0010;
 pub const BUFFER_TOO_SMALL: u32 = 0xC000_0023;
 /// The image has a form number that is not known.
 pub const UNKNOWN_REVISION: u32 = 0xC000_0058;
-/// The journal has no room for the records, or no positions left for the record.
+/// No position is left for the record, or the ring has no room for the image's records.
 pub const DISK_FULL: u32 = 0xC000_007F;
 /// A file record, the volume record, the ring or the image is not sound.
 pub const FILE_CORRUPT_ERROR: u32 = 0xC000_0102;
