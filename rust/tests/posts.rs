@@ -92,7 +92,7 @@ fn turn(rng: &mut Rng, capacity: u64) -> u64 {
     rng.pick(&[0, 1, any, any]) * capacity
 }
 
-/// What the tests of three posts count.
+/// A test's random numbers, and what it counts.
 struct Run {
     rng: Rng,
     posts: u64,
@@ -235,7 +235,7 @@ fn post_to_both(
 /// lengths of names n is 10 for two, then 11 to 73 for four each, and 74 for one:
 /// 20 + 4 * 63 * 42 + 74 = 10,678 refusals in each ring.
 #[test]
-fn disk_full_is_for_the_last_position_alone() {
+fn disk_full_is_for_the_limit_alone() {
     let mut rng = Rng::new("full");
     let (mut refused, mut accepted) = (0, 0);
     for capacity in [1024, 65_536] {

@@ -21,7 +21,7 @@ use Rattle.volume.specs.Calls.{performed, inState, atPositions, deleteCheck}
 use Rattle.volume.proofs.Marks.{capacity-facts, position-facts}
 use Rattle.usn_record.specs.declared.Version.the-variants.{V3}
 use Rattle.usn_record.specs.Layout.{recordLength, shown, goodName, Record, bytesOf}
-use Rattle.usn_record.proofs.Record.{length-most}
+use Rattle.usn_record.proofs.Record.{record-short}
 use Rattle.record_reader.proofs.Judge.{shown-same, shown-lt}
 use Rattle.records.specs.Records.{joined}
 use Rattle.journal.specs.Kept.{keptBytes, keeps, goodMarks, sound, kept}
@@ -135,7 +135,7 @@ module _ (j : Journal) (h : History) (m : Sim j h) (l : Live j h) (c : Change) (
       }
 
   room : end - h .end ≤ h .capacity
-  room = omega (arith, length-most V3 name (p .good), capacity-facts (h .capacity) (m .shape .capacity))
+  room = omega (arith, record-short V3 name (p .good), capacity-facts (h .capacity) (m .shape .capacity))
 
   abbrev t : Shed
   t = shed (h .capacity) end (h .first) (h .left)
