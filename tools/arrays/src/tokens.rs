@@ -1,0 +1,192 @@
+//! The words, numbers, literals and signs of a source, without its comments.
+
+/// Words that name nothing.
+const KEYWORDS: [&str; 25] = [
+    "as", "break", "const", "continue", "else", "enum", "extern", "false", "fn", "for", "if",
+    "impl", "in", "let", "loop", "match", "mod", "mut", "pub", "return", "struct", "true", "type",
+    "use", "while",
+];
+
+/// Signs of two characters that stand for something else than the two of them.
+const PAIRS: [&str; 5] = ["::", "->", "=>", "!=", ".."];
+
+pub fn is_word(token: &str) -> bool {
+    token.starts_with(|c: char| c.is_alphabetic() || c == '_') && !is_bytes(token)
+}
+
+pub fn is_name(token: &str) -> bool {
+    is_word(token) && !KEYWORDS.contains(&token)
+}
+
+pub fn is_number(token: &str) -> bool {
+    token.starts_with(|c: char| c.is_ascii_digit())
+}
+
+/// Whether a token is a byte string or a byte, as b"hi" and b'a'.
+pub fn is_bytes(token: &str) -> bool {
+    token.starts_with("b\"") || token.starts_with("b'")
+}
+
+/// The clauses of a contract.
+const CLAUSES: [&str; 3] = ["requires", "ensures", "ghost"];
+
+/// Splits a source into its tokens, without its attributes and contracts.
+pub fn split(source: &str) -> Result<Vec<String>, String> {
+    let tokens = all(source);
+    let mut kept = Vec::new();
+    let mut at = 0;
+    while at < tokens.len() {
+        // an attribute, `#[..]` or `#![..]`, or a clause, with a name or none
+        let opens = if tokens[at] == "#" { "[" } else { "{" };
+        let is_left_out = tokens[at] == "#" || CLAUSES.contains(&tokens[at].as_str());
+        let open = (at + 1..tokens.len().min(at + 3)).find(|i| is_left_out && tokens[*i] == opens);
+        match open {
+            Some(open) => at = closing(&tokens, open)?,
+            None if tokens[at].starts_with('"') && tokens[at] != "\"C\"" => {
+                return Err(format!("not understood: {}", tokens[at]));
+            }
+            None => kept.push(tokens[at].clone()),
+        }
+        at += 1;
+    }
+    Ok(kept)
+}
+
+fn all(source: &str) -> Vec<String> {
+    let mut tokens = Vec::new();
+    let mut rest = source;
+    while let Some(first) = rest.chars().next() {
+        let length = length_of_first(rest, first);
+        let (token, behind) = rest.split_at(length);
+        if !first.is_whitespace() && !token.starts_with("//") && !token.starts_with("/*") {
+            tokens.push(token.to_string());
+        }
+        rest = behind;
+    }
+    tokens
+}
+
+/// The length of what a source begins with: a comment, a literal, a word, a number or a sign.
+fn length_of_first(rest: &str, first: char) -> usize {
+    if rest.starts_with("//") {
+        return rest.find('\n').unwrap_or(rest.len());
+    }
+    if rest.starts_with("/*") {
+        return block_comment(rest);
+    }
+    if first == '"' {
+        return quoted(rest, 1, b'"');
+    }
+    if is_bytes(rest) {
+        return quoted(rest, 2, rest.as_bytes()[1]);
+    }
+    if first.is_alphanumeric() || first == '_' || first == '\'' {
+        let behind = rest[first.len_utf8()..].find(|c: char| !c.is_alphanumeric() && c != '_');
+        return behind.map_or(rest.len(), |at| at + first.len_utf8());
+    }
+    if PAIRS.iter().any(|pair| rest.starts_with(pair)) {
+        return 2;
+    }
+    first.len_utf8()
+}
+
+/// The length of a comment that may have others inside.
+fn block_comment(rest: &str) -> usize {
+    let mut depth = 0;
+    let mut at = 0;
+    while at < rest.len() {
+        match rest.as_bytes().get(at..at + 2) {
+            Some(b"/*") => depth += 1,
+            Some(b"*/") => depth -= 1,
+            _ => {
+                at += 1;
+                continue;
+            }
+        }
+        at += 2;
+        if depth == 0 {
+            break;
+        }
+    }
+    at
+}
+
+/// The length of a literal up to its closing quote, which no backslash stands before.
+fn quoted(rest: &str, start: usize, quote: u8) -> usize {
+    let bytes = rest.as_bytes();
+    let mut at = start;
+    while at < bytes.len() && bytes[at] != quote {
+        at += if bytes[at] == b'\\' { 2 } else { 1 };
+    }
+    bytes.len().min(at + 1)
+}
+
+/// The place of the bracket that closes the one at `open`.
+pub fn closing(tokens: &[String], open: usize) -> Result<usize, String> {
+    let mut depth = 0;
+    for (i, token) in tokens.iter().enumerate().skip(open) {
+        match token.as_str() {
+            "(" | "[" | "{" => depth += 1,
+            ")" | "]" | "}" => depth -= 1,
+            _ => {}
+        }
+        if depth == 0 {
+            return Ok(i);
+        }
+    }
+    Err(format!(
+        "no bracket closes this one: {}",
+        join(&tokens[open..])
+    ))
+}
+
+/// The parts of a list that is separated by a sign, brackets left whole. Behind a last separator there is no part.
+pub fn parts<'a>(tokens: &'a [String], separator: &str) -> Vec<&'a [String]> {
+    let mut parts = Vec::new();
+    let mut depth = 0;
+    let mut start = 0;
+    for (i, token) in tokens.iter().enumerate() {
+        match token.as_str() {
+            "(" | "[" | "{" => depth += 1,
+            ")" | "]" | "}" => depth -= 1,
+            _ if depth == 0 && token == separator => {
+                parts.push(&tokens[start..i]);
+                start = i + 1;
+            }
+            _ => {}
+        }
+    }
+    if start < tokens.len() {
+        parts.push(&tokens[start..]);
+    }
+    parts
+}
+
+/// The names of the path that begins at a place.
+pub fn path_at(tokens: &[String], start: usize) -> Vec<String> {
+    let mut path = Vec::new();
+    let mut at = start;
+    while tokens.get(at).is_some_and(|token| is_name(token)) {
+        path.push(tokens[at].clone());
+        if tokens.get(at + 1).is_none_or(|sign| sign != "::") {
+            break;
+        }
+        at += 2;
+    }
+    path
+}
+
+/// Tokens as a text of one line.
+pub fn join(tokens: &[String]) -> String {
+    let text = tokens.join(" ");
+    let text = text
+        .replace("[ ", "[")
+        .replace(" ]", "]")
+        .replace(" ;", ";")
+        .replace(" ,", ",")
+        .replace("& ", "&");
+    match text.char_indices().nth(60) {
+        Some((end, _)) => format!("{}..", &text[..end]),
+        None => text,
+    }
+}
