@@ -1,8 +1,7 @@
 //! Follows the calls of the journal read and of the file read through the sources, and lists the arrays by value on the way. Fails on one
 //! above sixteen bytes. Takes the folder of the crates.
 
-#[cfg(test)]
-mod plants;
+mod code;
 mod program;
 mod search;
 mod sizes;
@@ -13,7 +12,7 @@ use search::{Array, Reached};
 use std::path::Path;
 use std::process::ExitCode;
 
-/// The reads: over slices of numbers, and as C calls them.
+/// The reads, as Rattle calls them and as C does.
 const READS: [&str; 4] = [
     "journal_read::read_journal",
     "lanhduxe::usn_read_journal",

@@ -1,22 +1,24 @@
 //! The items of all crates by their full paths, and what a name stands for where it is written.
 
-use crate::tokens::{closing, is_name, join, parts, split};
+use crate::sizes::number_size;
+use crate::tokens::{closing, find, is_name, join, parts, split};
 use std::collections::{BTreeMap, BTreeSet};
 
 /// The text of each source by its path below the folder of the crates.
 pub type Sources = BTreeMap<String, String>;
 
-/// What an item is, by its tokens.
+pub type Tokens = Vec<String>;
+
+/// What an item is, by its types and its code.
 pub enum Kind {
-    /// From the parameters on.
-    Function(Vec<String>),
-    /// From the colon on.
-    Constant(Vec<String>),
-    Alias(Vec<String>),
+    /// The types of the parameters and of the result, and the body with its braces.
+    Function(Vec<Tokens>, Tokens),
+    Constant(Tokens, Tokens),
+    Alias(Tokens),
     /// The type of each field.
-    Struct(Vec<Vec<String>>),
-    /// The type of each field of each variant.
-    Enum(Vec<Vec<Vec<String>>>),
+    Struct(Vec<Tokens>),
+    /// The name of each variant, and the types of its fields.
+    Enum(Vec<(String, Vec<Tokens>)>),
 }
 
 pub struct Item {
@@ -36,26 +38,23 @@ pub struct Program {
     pub items: BTreeMap<String, Item>,
     modules: BTreeSet<String>,
     /// What each `use` names, by the full path of the name that it brings.
-    uses: BTreeMap<String, Vec<String>>,
+    uses: BTreeMap<String, Tokens>,
+    /// The paths that stand for more than one item, module or `use`.
+    twice: BTreeSet<String>,
 }
 
 impl Item {
-    /// The text in which what the item names is looked for.
-    pub fn texts(&self) -> Vec<&[String]> {
+    /// The types in the item's text, but for those inside of code.
+    pub fn types(&self) -> Vec<&Tokens> {
         match &self.kind {
-            Kind::Function(text) | Kind::Constant(text) | Kind::Alias(text) => vec![text],
-            Kind::Struct(fields) => fields.iter().map(Vec::as_slice).collect(),
-            Kind::Enum(variants) => variants.iter().flatten().map(Vec::as_slice).collect(),
+            Kind::Function(types, _) | Kind::Struct(types) => types.iter().collect(),
+            Kind::Constant(ty, _) | Kind::Alias(ty) => vec![ty],
+            Kind::Enum(variants) => variants.iter().flat_map(|(_, fields)| fields).collect(),
         }
     }
 
-    /// The type and the value of a constant.
-    pub fn constant(&self) -> Option<(&[String], &[String])> {
-        let Kind::Constant(text) = &self.kind else {
-            return None;
-        };
-        let equals = text.iter().position(|token| token == "=")?;
-        Some((&text[1..equals], &text[equals + 1..]))
+    fn has_variant(&self, name: &str) -> bool {
+        matches!(&self.kind, Kind::Enum(variants) if variants.iter().any(|(variant, _)| variant == name))
     }
 }
 
@@ -71,13 +70,12 @@ struct Module<'a> {
 impl Module<'_> {
     fn inner(&self, name: &str) -> Self {
         let module = format!("{}::{name}", self.scope.module);
-        let scope = Scope {
-            module,
-            owner: None,
-        };
         Module {
             sources: self.sources,
-            scope,
+            scope: Scope {
+                module,
+                owner: None,
+            },
             folder: format!("{}/{name}", self.folder),
         }
     }
@@ -105,14 +103,26 @@ impl Program {
                 module: name.to_string(),
                 owner: None,
             };
-            let module = Module {
-                sources,
-                scope,
-                folder: format!("{name}/src"),
-            };
-            program.read_file(&module, file)?;
+            program.read_file(
+                &Module {
+                    sources,
+                    scope,
+                    folder: format!("{name}/src"),
+                },
+                file,
+            )?;
         }
-        Ok(program)
+        // a method is looked up at its type, so this must be the type's own path
+        let mut owners = program
+            .items
+            .values()
+            .filter_map(|item| item.scope.owner.as_ref());
+        match owners.find(|owner| !program.items.contains_key(*owner)) {
+            Some(owner) => Err(format!(
+                "an impl of {owner}, which is no type of that module"
+            )),
+            None => Ok(program),
+        }
     }
 
     fn read_file(&mut self, module: &Module, file: &str) -> Result<(), String> {
@@ -120,6 +130,8 @@ impl Program {
             .sources
             .get(file)
             .ok_or(format!("there is no {file}"))?;
+        self.declare(&module.scope.module);
+        self.modules.insert(module.scope.module.clone());
         split(source)
             .and_then(|tokens| self.read_items(module, &tokens))
             .map_err(|fault| format!("{file}: {fault}"))
@@ -127,91 +139,97 @@ impl Program {
 
     /// Reads items one behind the other. Each ends with a semicolon or with the first braces that close.
     fn read_items(&mut self, module: &Module, tokens: &[String]) -> Result<(), String> {
-        self.modules.insert(module.scope.module.clone());
         let mut start = 0;
-        let mut at = 0;
-        while at < tokens.len() {
-            let end = match tokens[at].as_str() {
-                "(" | "[" | "{" => closing(tokens, at)?,
-                _ => at,
-            };
-            if tokens[end] == ";" || tokens[end] == "}" {
-                let item = &tokens[start..if tokens[end] == ";" { end } else { end + 1 }];
-                self.read_item(module, item)?;
+        while start < tokens.len() {
+            let end = find(tokens, start, &[";", "{"])
+                .ok_or(format!("no end: {}", join(&tokens[start..])))?;
+            if tokens[end] == ";" {
+                self.read_item(module, &tokens[start..end])?;
                 start = end + 1;
+            } else {
+                let end = closing(tokens, end)? + 1;
+                self.read_item(module, &tokens[start..end])?;
+                start = end;
             }
-            at = end + 1;
         }
-        match start == tokens.len() {
-            true => Ok(()),
-            false => Err(format!("no item ends: {}", join(&tokens[start..]))),
-        }
+        Ok(())
     }
 
     fn read_item(&mut self, module: &Module, item: &[String]) -> Result<(), String> {
         let words: Vec<&str> = item.iter().map(String::as_str).collect();
+        let scope = &module.scope;
         match words[..] {
             [] | ["ghost", ..] => Ok(()),
-            ["pub", "(", ..] => self.read_item(module, &item[closing(item, 1)? + 1..]),
-            ["pub", ..] => self.read_item(module, &item[1..]),
+            ["pub", ..] => self.read_item(module, without_pub(item)),
             ["extern", "\"C\"", "fn", ..] => self.read_item(module, &item[2..]),
-            ["use", ..] => self.read_use(&module.scope, &[], &item[1..]),
+            ["const", "fn", ..] => self.read_item(module, &item[1..]),
+            ["use", ..] => self.read_use(scope, &[], &item[1..]),
             ["mod", name] => {
                 self.read_file(&module.inner(name), &format!("{}/{name}.rt", module.folder))
             }
             ["mod", name, "{", .., "}"] => {
-                self.read_items(&module.inner(name), &item[3..item.len() - 1])
+                let inner = module.inner(name);
+                self.declare(&inner.scope.module);
+                self.modules.insert(inner.scope.module.clone());
+                self.read_items(&inner, &item[3..item.len() - 1])
             }
             ["impl", .., "}"] => {
-                let name = item
+                let open = find(item, 0, &["{"]).ok_or("an impl of nothing")?;
+                let name = item[..open]
                     .iter()
                     .find(|token| is_name(token))
                     .ok_or("an impl of no type")?;
-                let open = item
-                    .iter()
-                    .position(|token| token == "{")
-                    .ok_or("an impl of nothing")?;
                 self.read_items(&module.of_type(name), &item[open + 1..item.len() - 1])
             }
-            ["fn", name, ..] => self.add(&module.scope, name, Kind::Function(item[2..].to_vec())),
+            ["fn", name, ..] => self.add(scope, name, function(item)?),
             ["const", name, ":", ..] => {
-                self.add(&module.scope, name, Kind::Constant(item[2..].to_vec()))
+                let equals = find(item, 0, &["="]).ok_or("a constant of no value")?;
+                self.add(
+                    scope,
+                    name,
+                    Kind::Constant(item[3..equals].to_vec(), item[equals + 1..].to_vec()),
+                )
             }
-            ["type", name, "=", ..] => {
-                self.add(&module.scope, name, Kind::Alias(item[3..].to_vec()))
-            }
-            ["struct", name, ..] => self.add(&module.scope, name, Kind::Struct(fields(item))),
+            ["type", name, "=", ..] => self.add(scope, name, Kind::Alias(item[3..].to_vec())),
+            ["struct", name, ..] => self.add(scope, name, Kind::Struct(fields(item))),
             ["enum", name, "{", .., "}"] => {
-                let variants = parts(&item[3..item.len() - 1], ",")
-                    .into_iter()
-                    .map(fields)
-                    .collect();
-                self.add(&module.scope, name, Kind::Enum(variants))
+                let variants = parts(&item[3..item.len() - 1], ",").into_iter();
+                let variants = variants.map(|variant| (variant[0].clone(), fields(variant)));
+                self.add(scope, name, Kind::Enum(variants.collect()))
             }
             _ => Err(format!("not understood: {}", join(item))),
         }
     }
 
-    /// Takes `a::b`, `a::b as c` and `a::{b, c}`.
+    /// Takes `a::b`, `a::b as c` and `a::{b, self}`.
     fn read_use(
         &mut self,
         scope: &Scope,
         prefix: &[String],
         tokens: &[String],
     ) -> Result<(), String> {
-        let is_end = |token: &String| token == "{" || token == "as";
-        let end = tokens.iter().position(is_end).unwrap_or(tokens.len());
+        let end = find(tokens, 0, &["{", "as"]).unwrap_or(tokens.len());
         let names = tokens[..end].iter().filter(|token| *token != "::");
-        let path: Vec<String> = prefix.iter().chain(names).cloned().collect();
+        let mut path: Tokens = prefix.iter().chain(names).cloned().collect();
         if tokens.get(end).is_some_and(|token| token == "{") {
             let inner = &tokens[end + 1..closing(tokens, end)?];
             return parts(inner, ",")
                 .into_iter()
                 .try_for_each(|part| self.read_use(scope, &path, part));
         }
-        match tokens.last() {
-            Some(name) if path.iter().all(|name| is_name(name)) => {
-                self.uses.insert(format!("{}::{name}", scope.module), path);
+        if path.len() > 1 && path.last().is_some_and(|name| name == "self") {
+            path.pop();
+        }
+        let name = if end < tokens.len() {
+            tokens.last()
+        } else {
+            path.last()
+        };
+        match name {
+            Some(name) if path.iter().chain([name]).all(|name| is_name(name)) => {
+                let brought = format!("{}::{name}", scope.module);
+                self.declare(&brought);
+                self.uses.insert(brought, path);
                 Ok(())
             }
             _ => Err(format!("not understood: use {}", join(tokens))),
@@ -219,94 +237,155 @@ impl Program {
     }
 
     fn add(&mut self, scope: &Scope, name: &str, kind: Kind) -> Result<(), String> {
+        if number_size(name).is_some() {
+            return Err(format!("{name} is a type of the language"));
+        }
         let path = format!("{}::{name}", scope.owner.as_ref().unwrap_or(&scope.module));
-        match self.items.insert(
-            path.clone(),
+        self.declare(&path);
+        self.items.insert(
+            path,
             Item {
                 kind,
                 scope: scope.clone(),
             },
-        ) {
-            Some(_) => Err(format!("{path} is there twice")),
-            None => Ok(()),
+        );
+        Ok(())
+    }
+
+    /// Notes a path that already stands for something.
+    fn declare(&mut self, path: &str) {
+        if self.is_declared(path) {
+            self.twice.insert(path.to_string());
         }
+    }
+
+    fn is_declared(&self, path: &str) -> bool {
+        self.items.contains_key(path) || self.modules.contains(path) || self.uses.contains_key(path)
     }
 }
 
+/// What stands behind `pub` or `pub(..)`.
+fn without_pub(tokens: &[String]) -> &[String] {
+    match tokens {
+        [word, open, ..] if word == "pub" && open == "(" => {
+            &tokens[closing(tokens, 1).map_or(1, |end| end + 1)..]
+        }
+        [word, ..] if word == "pub" => &tokens[1..],
+        _ => tokens,
+    }
+}
+
+/// A function from its `fn` on.
+fn function(item: &[String]) -> Result<Kind, String> {
+    let open = find(item, 0, &["("]).ok_or("a function without parameters")?;
+    let close = closing(item, open)?;
+    let body = find(item, close + 1, &["{"]).ok_or("a function without a body")?;
+    let mut types = Vec::new();
+    for parameter in parts(&item[open + 1..close], ",") {
+        match find(parameter, 0, &[":"]) {
+            Some(colon) => types.push(parameter[colon + 1..].to_vec()),
+            None if parameter.last().is_some_and(|name| name == "self") => {
+                types.push(vec!["Self".to_string()])
+            }
+            None => return Err(format!("not understood: {}", join(parameter))),
+        }
+    }
+    if item[close + 1] == "->" {
+        types.push(item[close + 2..body].to_vec());
+    }
+    Ok(Kind::Function(types, item[body..].to_vec()))
+}
+
 /// The types of a struct's or a variant's fields.
-fn fields(tokens: &[String]) -> Vec<Vec<String>> {
-    let Some(open) = tokens.iter().position(|token| token == "{" || token == "(") else {
+fn fields(tokens: &[String]) -> Vec<Tokens> {
+    let Some(open) = find(tokens, 0, &["{", "("]) else {
         return Vec::new();
     };
-    let of = |field: &[String]| match field.iter().position(|token| token == ":") {
+    let type_in = |field: &[String]| match find(field, 0, &[":"]) {
         Some(colon) => field[colon + 1..].to_vec(),
-        None => field
-            .iter()
-            .skip_while(|token| *token == "pub")
-            .cloned()
-            .collect(),
+        None => without_pub(field).to_vec(),
     };
     parts(&tokens[open + 1..tokens.len() - 1], ",")
         .into_iter()
-        .map(of)
+        .map(type_in)
         .collect()
 }
 
 // ---- Names.
 
 impl Program {
-    /// The full path of the item that a path stands for where it is written; of an enum's variant, that of the enum.
-    pub fn resolve(&self, scope: &Scope, path: &[String]) -> Option<String> {
+    /// The full path of the item that a path stands for where it is written; of an enum's variant, that of the enum. None for a single
+    /// name that no item has, which may be that of a local.
+    pub fn resolve(&self, scope: &Scope, path: &[String]) -> Result<Option<String>, String> {
+        let found = self
+            .lookup(scope, path)?
+            .filter(|found| self.items.contains_key(found));
+        match found {
+            None if path.len() > 1 => Err(format!("no source has {}", path.join("::"))),
+            found => Ok(found),
+        }
+    }
+
+    /// The same, of an item or a module.
+    fn lookup(&self, scope: &Scope, path: &[String]) -> Result<Option<String>, String> {
         let module = &scope.module;
-        let (first, rest) = path.split_first()?;
-        let here = format!("{module}::{first}");
-        let mut found = match first.as_str() {
-            "Self" => scope.owner.clone()?,
+        let here = format!("{module}::{}", path[0]);
+        let mut found = match path[0].as_str() {
+            "Self" => scope.owner.clone().ok_or("Self outside of an impl")?,
             "self" => module.clone(),
-            "crate" => module.split("::").next()?.to_string(),
-            "super" => module.rsplit_once("::")?.0.to_string(),
-            _ if self.is_there(&here) => here,
-            _ if self.uses.contains_key(&here) => self.used(&here)?,
-            _ if self.modules.contains(first) => first.clone(),
-            _ => return None,
+            "crate" => module.split("::").next().unwrap_or(module).to_string(),
+            "super" => module
+                .rsplit_once("::")
+                .ok_or("super outside of a module")?
+                .0
+                .to_string(),
+            first if self.is_declared(&here) => {
+                if path.len() > 1 && self.modules.contains(first) {
+                    return Err(format!("{first} is in {module}, and a crate"));
+                }
+                self.declared(&here)?
+            }
+            first => first.to_string(),
         };
-        for name in rest {
+        for name in &path[1..] {
             let inner = format!("{found}::{name}");
-            found = match self.items.get(&found) {
-                _ if self.is_there(&inner) => inner,
-                Some(Item {
-                    kind: Kind::Enum(_),
-                    ..
-                }) => found,
-                _ => self.used(&inner)?,
-            };
+            if self.is_declared(&inner) {
+                found = self.declared(&inner)?;
+            } else if !self
+                .items
+                .get(&found)
+                .is_some_and(|item| item.has_variant(name))
+            {
+                return Ok(None);
+            }
         }
-        self.items.contains_key(&found).then_some(found)
+        Ok(Some(found))
     }
 
-    fn is_there(&self, path: &str) -> bool {
-        self.items.contains_key(path) || self.modules.contains(path)
-    }
-
-    /// What a `use` brings under this path. It names a crate first, or something beside itself.
-    fn used(&self, path: &str) -> Option<String> {
-        let named = self.uses.get(path)?;
-        let full = named.join("::");
-        if self.is_there(&full) {
-            return Some(full);
+    /// What a declared path stands for: itself, or what its `use` names, in a crate or in its own module.
+    fn declared(&self, path: &str) -> Result<String, String> {
+        if self.twice.contains(path) {
+            return Err(format!("{path} is there twice"));
         }
-        let (module, name) = path.rsplit_once("::")?;
-        if named[0] == name {
-            return None;
-        }
-        let module = module.to_string();
-        self.resolve(
-            &Scope {
-                module,
-                owner: None,
-            },
-            named,
-        )
+        let Some(named) = self.uses.get(path) else {
+            return Ok(path.to_string());
+        };
+        let (module, name) = path.rsplit_once("::").unwrap_or(("", path));
+        let is_beside = named[0] != name && self.is_declared(&format!("{module}::{}", named[0]));
+        let module = match named[0].as_str() {
+            "crate" | "self" | "super" => module,
+            _ if is_beside => module,
+            first if self.modules.contains(first) => "",
+            _ => return Err(format!("no source has {}", named.join("::"))),
+        };
+        let scope = Scope {
+            module: module.to_string(),
+            owner: None,
+        };
+        let found = self
+            .lookup(&scope, named)?
+            .filter(|found| self.is_declared(found));
+        found.ok_or(format!("no source has {}", named.join("::")))
     }
 
     /// Every method of this name, whatever its type.

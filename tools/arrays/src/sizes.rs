@@ -1,15 +1,15 @@
-//! The sizes of types and of arrays, in bytes.
+//! The sizes of types and of array literals, in bytes.
 
-use crate::program::{Kind, Program, Scope};
-use crate::tokens::{closing, is_number, parts, path_at};
+use crate::program::{Item, Kind, Program, Scope, Tokens};
+use crate::tokens::{closing, find, is_number, parts, path_at};
 
-/// Where a type or a value is written, and what its names stand for there.
+/// Where a type or a value is written.
 pub struct Place<'a> {
     pub program: &'a Program,
     pub scope: &'a Scope,
 }
 
-/// An array of this many bytes, or a slice.
+/// A pair of brackets in a type: an array of this many bytes, or a slice.
 pub enum Brackets {
     Array(usize),
     Slice,
@@ -20,49 +20,21 @@ struct Layout {
     align: usize,
 }
 
+impl Layout {
+    const fn number(size: usize) -> Layout {
+        Layout { size, align: size }
+    }
+
+    /// Rounded up, so that one can stand behind the other.
+    fn rounded(self) -> Layout {
+        Layout {
+            size: self.size.next_multiple_of(self.align),
+            align: self.align,
+        }
+    }
+}
+
 impl<'a> Place<'a> {
-    /// What a pair of brackets stands for that is no index: a type, or a literal.
-    pub fn brackets(&self, inner: &[String]) -> Option<Brackets> {
-        if let [element, length] = parts(inner, ";")[..] {
-            return Some(Brackets::Array(
-                self.element(element)?.checked_mul(self.value(length)?)?,
-            ));
-        }
-        if self.layout(inner).is_some() {
-            return Some(Brackets::Slice);
-        }
-        let elements = parts(inner, ",");
-        if elements.is_empty() {
-            return Some(Brackets::Array(0));
-        }
-        // all have one type, and one that says it is enough
-        let element = elements
-            .iter()
-            .filter_map(|element| self.element(element))
-            .min()?;
-        Some(Brackets::Array(elements.len() * element))
-    }
-
-    /// The size of an array's element, from its type or from a value. A number that does not say its type may be of the widest.
-    fn element(&self, tokens: &[String]) -> Option<usize> {
-        if let Some(layout) = self.layout(tokens) {
-            return Some(layout.size);
-        }
-        match tokens {
-            [number] if is_number(number) => Some(suffix(number).map_or(8, |(_, size)| size)),
-            [byte] if byte.starts_with("b'") => Some(1),
-            [truth] if truth == "true" || truth == "false" => Some(1),
-            [_, cast, of] if cast == "as" => number_size(of),
-            [open, inner @ .., _] if open == "[" && is_group(tokens, 0) => {
-                match self.brackets(inner)? {
-                    Brackets::Array(size) => Some(size),
-                    Brackets::Slice => None,
-                }
-            }
-            _ => None,
-        }
-    }
-
     fn at(&self, scope: &'a Scope) -> Place<'a> {
         Place {
             program: self.program,
@@ -70,66 +42,83 @@ impl<'a> Place<'a> {
         }
     }
 
-    /// The layout of a type.
-    fn layout(&self, of: &[String]) -> Option<Layout> {
-        match of {
+    /// The item that a whole text names, with lifetimes behind it or without.
+    fn item(&self, tokens: &[String]) -> Option<&'a Item> {
+        let path = path_at(tokens, 0);
+        let behind = (2 * path.len()).checked_sub(1)?;
+        if tokens.get(behind).is_some_and(|sign| sign != "<") {
+            return None;
+        }
+        let found = self.program.resolve(self.scope, &path).ok()??;
+        self.program.items.get(&found)
+    }
+
+    // ---- Types.
+
+    /// What a pair of brackets in a type stands for.
+    pub fn brackets(&self, inner: &[String]) -> Option<Brackets> {
+        match parts(inner, ";")[..] {
+            [element, length] => {
+                let element = self.layout(element)?;
+                element
+                    .size
+                    .checked_mul(self.length(length)?)
+                    .map(Brackets::Array)
+            }
+            _ => Some(Brackets::Slice),
+        }
+    }
+
+    fn layout(&self, ty: &[String]) -> Option<Layout> {
+        match ty {
             [sign, ..] if sign == "&" => {
-                // of a slice with its length
-                let start = of.iter().position(|token| token == "[");
+                // a slice's length stands beside its address
+                let open = ty.iter().position(|token| token == "[");
                 let is_slice =
-                    start.is_some_and(|open| parts(&of[open + 1..of.len() - 1], ";").len() == 1);
+                    open.is_some_and(|open| parts(&ty[open + 1..ty.len() - 1], ";").len() == 1);
                 Some(Layout {
                     size: if is_slice { 16 } else { 8 },
                     align: 8,
                 })
             }
-            [open, inner @ .., _] if open == "[" => {
-                let [element, length] = parts(inner, ";")[..] else {
-                    return None;
-                };
-                let Layout { size, align } = self.layout(element)?;
-                Some(Layout {
-                    size: size.checked_mul(self.value(length)?)?,
-                    align,
-                })
-            }
-            [number] if number_size(number).is_some() => {
-                number_size(number).map(|size| Layout { size, align: size })
-            }
-            _ => self.declared(of),
+            [open, inner @ .., _] if open == "[" => match parts(inner, ";")[..] {
+                [element, length] => {
+                    let Layout { size, align } = self.layout(element)?;
+                    Some(Layout {
+                        size: size.checked_mul(self.length(length)?)?,
+                        align,
+                    })
+                }
+                _ => None,
+            },
+            [number] if number_size(number).is_some() => number_size(number).map(Layout::number),
+            _ => self.declared(ty),
         }
     }
 
-    /// The layout of a declared type. The fields of a struct stand in their order, each aligned; an enum has a tag of one byte, and
-    /// behind it the fields of a variant.
-    fn declared(&self, of: &[String]) -> Option<Layout> {
-        let path = path_at(of, 0);
-        let is_whole = of
-            .get((2 * path.len()).checked_sub(1)?)
-            .is_none_or(|behind| behind == "<");
-        let item = &self.program.items[&self
-            .program
-            .resolve(self.scope, &path)
-            .filter(|_| is_whole)?];
+    /// The layout of a declared type: the fields of a struct in their order, each aligned; of an enum a tag of one byte, and behind it the
+    /// fields of a variant.
+    fn declared(&self, ty: &[String]) -> Option<Layout> {
+        let item = self.item(ty)?;
         let place = self.at(&item.scope);
         match &item.kind {
-            Kind::Alias(of) => place.layout(of),
-            Kind::Struct(fields) => place.fields(fields, 0),
+            Kind::Alias(ty) => place.layout(ty),
+            Kind::Struct(fields) => place.fields(0, fields),
             Kind::Enum(variants) => {
-                let mut whole = Layout { size: 1, align: 1 };
-                for fields in variants {
-                    let variant = place.fields(fields, 1)?;
+                let mut whole = Layout::number(1);
+                for (_, fields) in variants {
+                    let variant = place.fields(1, fields)?;
                     whole.size = whole.size.max(variant.size);
                     whole.align = whole.align.max(variant.align);
                 }
                 Some(whole.rounded())
             }
-            Kind::Function(_) | Kind::Constant(_) => None,
+            Kind::Function(..) | Kind::Constant(..) => None,
         }
     }
 
     /// The layout of fields behind a tag of this size.
-    fn fields(&self, fields: &[Vec<String>], tag: usize) -> Option<Layout> {
+    fn fields(&self, tag: usize, fields: &[Tokens]) -> Option<Layout> {
         let mut whole = Layout {
             size: tag,
             align: 1,
@@ -142,69 +131,81 @@ impl<'a> Place<'a> {
         Some(whole.rounded())
     }
 
+    // ---- Values.
+
+    /// The size of an array literal, at most.
+    pub fn literal(&self, inner: &[String]) -> Option<usize> {
+        if let [element, length] = parts(inner, ";")[..] {
+            return element_size(self, element)?.checked_mul(self.length(length)?);
+        }
+        let elements = parts(inner, ",");
+        // all have one type, and one that says it is enough
+        let sizes = elements
+            .iter()
+            .filter_map(|element| element_size(self, element));
+        match elements.len() {
+            0 => Some(0),
+            n => sizes.min()?.checked_mul(n),
+        }
+    }
+
     /// The value of an array's length.
-    fn value(&self, tokens: &[String]) -> Option<usize> {
-        for signs in [["+", "-", ""], ["*", "/", "%"]] {
-            let is_sign =
-                |i: &usize| signs.contains(&tokens[*i].as_str()) && is_outside(tokens, *i);
-            let Some(at) = (1..tokens.len()).rev().find(is_sign) else {
-                continue;
-            };
-            let left = self.value(&tokens[..at])?;
-            let right = self.value(&tokens[at + 1..])?;
-            return match tokens[at].as_str() {
-                "+" => left.checked_add(right),
-                "-" => left.checked_sub(right),
-                "*" => left.checked_mul(right),
-                "/" => left.checked_div(right),
-                _ => left.checked_rem(right),
-            };
+    fn length(&self, tokens: &[String]) -> Option<usize> {
+        // the last sign of the weakest kind is the one that is reckoned last
+        for signs in [&["+", "-"][..], &["*", "/", "%"]] {
+            let mut last = None;
+            let mut at = 0;
+            while let Some(sign) = find(tokens, at, signs) {
+                last = Some(sign);
+                at = sign + 1;
+            }
+            if let Some(at) = last {
+                let left = self.length(&tokens[..at])?;
+                let right = self.length(&tokens[at + 1..])?;
+                return match tokens[at].as_str() {
+                    "+" => left.checked_add(right),
+                    "-" => left.checked_sub(right),
+                    "*" => left.checked_mul(right),
+                    "/" => left.checked_div(right),
+                    _ => left.checked_rem(right),
+                };
+            }
         }
         match tokens {
-            [front @ .., cast, _] if cast == "as" => self.value(front),
-            [open, inner @ .., _] if open == "(" && is_group(tokens, 0) => self.value(inner),
+            [front @ .., cast, ty] if cast == "as" && ty == "usize" => self.length(front),
+            [open, inner @ .., _] if open == "(" && is_group(tokens) => self.length(inner),
             [number] if is_number(number) => number_value(number),
             _ => {
-                let path = path_at(tokens, 0);
-                let item = self
-                    .program
-                    .resolve(self.scope, &path)
-                    .filter(|_| 2 * path.len() == tokens.len() + 1)?;
-                let item = &self.program.items[&item];
-                self.at(&item.scope).value(item.constant()?.1)
+                let item = self.item(tokens)?;
+                match &item.kind {
+                    Kind::Constant(_, value) => self.at(&item.scope).length(value),
+                    _ => None,
+                }
             }
         }
     }
 }
 
-impl Layout {
-    fn rounded(self) -> Layout {
-        Layout {
-            size: self.size.next_multiple_of(self.align),
-            align: self.align,
-        }
+/// The size of an element of a literal, at most: a number that does not say its type may be of the widest.
+fn element_size(place: &Place, tokens: &[String]) -> Option<usize> {
+    match tokens {
+        [number] if is_number(number) => Some(suffix(number).map_or(8, |(_, size)| size)),
+        [byte] if byte.starts_with("b'") => Some(1),
+        [truth] if truth == "true" || truth == "false" => Some(1),
+        [_, cast, ty] if cast == "as" => number_size(ty),
+        [open, inner @ .., _] if open == "[" && is_group(tokens) => place.literal(inner),
+        _ => None,
     }
 }
 
-/// Whether a bracket is closed by the last token.
-fn is_group(tokens: &[String], open: usize) -> bool {
-    closing(tokens, open) == Ok(tokens.len() - 1)
+/// Whether the first token is a bracket that the last one closes.
+fn is_group(tokens: &[String]) -> bool {
+    closing(tokens, 0) == Ok(tokens.len() - 1)
 }
 
-/// Whether no bracket is open at a place.
-fn is_outside(tokens: &[String], at: usize) -> bool {
-    let count = |signs: [&str; 3]| {
-        tokens[..at]
-            .iter()
-            .filter(|token| signs.contains(&token.as_str()))
-            .count()
-    };
-    count(["(", "[", "{"]) == count([")", "]", "}"])
-}
-
-/// The size of a number's type or of bool.
-fn number_size(of: &str) -> Option<usize> {
-    match of {
+/// The size of a number's type, or of bool.
+pub fn number_size(ty: &str) -> Option<usize> {
+    match ty {
         "u8" | "i8" | "bool" => Some(1),
         "u16" | "i16" => Some(2),
         "u32" | "i32" | "f32" => Some(4),

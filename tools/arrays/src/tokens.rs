@@ -1,48 +1,49 @@
-//! The words, numbers, literals and signs of a source, without its comments.
+//! The words, numbers, literals and signs of a source, without its comments, attributes and contracts.
 
-/// Words that name nothing.
 const KEYWORDS: [&str; 25] = [
     "as", "break", "const", "continue", "else", "enum", "extern", "false", "fn", "for", "if",
     "impl", "in", "let", "loop", "match", "mod", "mut", "pub", "return", "struct", "true", "type",
     "use", "while",
 ];
 
-/// Signs of two characters that stand for something else than the two of them.
-const PAIRS: [&str; 5] = ["::", "->", "=>", "!=", ".."];
+/// The clauses of a contract.
+const CLAUSES: [&str; 3] = ["requires", "ensures", "ghost"];
 
-pub fn is_word(token: &str) -> bool {
-    token.starts_with(|c: char| c.is_alphabetic() || c == '_') && !is_bytes(token)
-}
+/// Signs of two characters in which neither may be taken for a sign of its own.
+const PAIRS: [&str; 6] = ["::", "->", "=>", "==", "!=", ".."];
 
+/// Whether a token is a word that names something.
 pub fn is_name(token: &str) -> bool {
-    is_word(token) && !KEYWORDS.contains(&token)
+    token.starts_with(|c: char| c.is_alphabetic() || c == '_')
+        && !is_bytes(token)
+        && !KEYWORDS.contains(&token)
 }
 
 pub fn is_number(token: &str) -> bool {
     token.starts_with(|c: char| c.is_ascii_digit())
 }
 
-/// Whether a token is a byte string or a byte, as b"hi" and b'a'.
-pub fn is_bytes(token: &str) -> bool {
-    token.starts_with("b\"") || token.starts_with("b'")
+/// Whether a text begins with a byte string or a byte, as b"hi" and b'a'.
+pub fn is_bytes(text: &str) -> bool {
+    text.starts_with("b\"") || text.starts_with("b'")
 }
 
-/// The clauses of a contract.
-const CLAUSES: [&str; 3] = ["requires", "ensures", "ghost"];
-
-/// Splits a source into its tokens, without its attributes and contracts.
+/// Splits a source into its tokens.
 pub fn split(source: &str) -> Result<Vec<String>, String> {
     let tokens = all(source);
-    let mut kept = Vec::new();
+    let mut kept: Vec<String> = Vec::new();
     let mut at = 0;
     while at < tokens.len() {
-        // an attribute, `#[..]` or `#![..]`, or a clause, with a name or none
+        // an attribute, `#[..]` or `#![..]`, or a clause, with a name or without
         let opens = if tokens[at] == "#" { "[" } else { "{" };
         let is_left_out = tokens[at] == "#" || CLAUSES.contains(&tokens[at].as_str());
         let open = (at + 1..tokens.len().min(at + 3)).find(|i| is_left_out && tokens[*i] == opens);
         match open {
             Some(open) => at = closing(&tokens, open)?,
-            None if tokens[at].starts_with('"') && tokens[at] != "\"C\"" => {
+            // the language has a string only in `extern "C"`; this is one, or what is left of a raw byte string
+            None if tokens[at].starts_with('"')
+                && kept.last().is_none_or(|before| before != "extern") =>
+            {
                 return Err(format!("not understood: {}", tokens[at]));
             }
             None => kept.push(tokens[at].clone()),
@@ -56,8 +57,7 @@ fn all(source: &str) -> Vec<String> {
     let mut tokens = Vec::new();
     let mut rest = source;
     while let Some(first) = rest.chars().next() {
-        let length = length_of_first(rest, first);
-        let (token, behind) = rest.split_at(length);
+        let (token, behind) = rest.split_at(length_of_first(rest, first));
         if !first.is_whitespace() && !token.starts_with("//") && !token.starts_with("/*") {
             tokens.push(token.to_string());
         }
@@ -80,9 +80,11 @@ fn length_of_first(rest: &str, first: char) -> usize {
     if is_bytes(rest) {
         return quoted(rest, 2, rest.as_bytes()[1]);
     }
+    // a word, a number or a lifetime
     if first.is_alphanumeric() || first == '_' || first == '\'' {
-        let behind = rest[first.len_utf8()..].find(|c: char| !c.is_alphanumeric() && c != '_');
-        return behind.map_or(rest.len(), |at| at + first.len_utf8());
+        let inner = &rest[first.len_utf8()..];
+        let end = inner.find(|c: char| !c.is_alphanumeric() && c != '_');
+        return first.len_utf8() + end.unwrap_or(inner.len());
     }
     if PAIRS.iter().any(|pair| rest.starts_with(pair)) {
         return 2;
@@ -134,30 +136,32 @@ pub fn closing(tokens: &[String], open: usize) -> Result<usize, String> {
             return Ok(i);
         }
     }
-    Err(format!(
-        "no bracket closes this one: {}",
-        join(&tokens[open..])
-    ))
+    Err(format!("nothing closes {}", join(&tokens[open..])))
 }
 
-/// The parts of a list that is separated by a sign, brackets left whole. Behind a last separator there is no part.
+/// The first place from `start` on, in no further bracket, of a token that is one of these.
+pub fn find(tokens: &[String], start: usize, signs: &[&str]) -> Option<usize> {
+    let mut at = start;
+    while at < tokens.len() {
+        if signs.contains(&tokens[at].as_str()) {
+            return Some(at);
+        }
+        at = match tokens[at].as_str() {
+            "(" | "[" | "{" => closing(tokens, at).ok()? + 1,
+            _ => at + 1,
+        };
+    }
+    None
+}
+
+/// The parts of a list that a sign separates, brackets left whole. Behind a last separator there is no part.
 pub fn parts<'a>(tokens: &'a [String], separator: &str) -> Vec<&'a [String]> {
     let mut parts = Vec::new();
-    let mut depth = 0;
     let mut start = 0;
-    for (i, token) in tokens.iter().enumerate() {
-        match token.as_str() {
-            "(" | "[" | "{" => depth += 1,
-            ")" | "]" | "}" => depth -= 1,
-            _ if depth == 0 && token == separator => {
-                parts.push(&tokens[start..i]);
-                start = i + 1;
-            }
-            _ => {}
-        }
-    }
-    if start < tokens.len() {
-        parts.push(&tokens[start..]);
+    while start < tokens.len() {
+        let end = find(tokens, start, &[separator]).unwrap_or(tokens.len());
+        parts.push(&tokens[start..end]);
+        start = end + 1;
     }
     parts
 }
@@ -183,8 +187,7 @@ pub fn join(tokens: &[String]) -> String {
         .replace("[ ", "[")
         .replace(" ]", "]")
         .replace(" ;", ";")
-        .replace(" ,", ",")
-        .replace("& ", "&");
+        .replace(" ,", ",");
     match text.char_indices().nth(60) {
         Some((end, _)) => format!("{}..", &text[..end]),
         None => text,
