@@ -15,14 +15,15 @@ pub enum Role {
     Literal,
 }
 
+/// A pair of square brackets, from its first place to its last.
 pub struct Square {
     pub role: Role,
-    /// What is between the brackets.
-    pub inner: Range<usize>,
+    pub start: usize,
+    pub end: usize,
 }
 
-/// The types that are declared in code.
-pub fn declared_types(code: &[String]) -> Vec<Range<usize>> {
+/// The types that a `let` declares.
+pub fn let_types(code: &[String]) -> Vec<Range<usize>> {
     let mut types = Vec::new();
     for at in (0..code.len()).filter(|at| code[*at] == "let") {
         let colon = find(code, at, &[":", "=", ";"]).filter(|at| code[*at] == ":");
@@ -34,7 +35,7 @@ pub fn declared_types(code: &[String]) -> Vec<Range<usize>> {
 
 /// The square brackets of the body of a function, or of the value of a constant.
 pub fn squares(code: &[String]) -> Result<Vec<Square>, String> {
-    let types = declared_types(code);
+    let types = let_types(code);
     let mut squares = Vec::new();
     // the brackets that are open, each with whether its parts have declared types: arguments, and elements of a typed literal
     let mut open: Vec<(bool, usize)> = Vec::new();
@@ -55,14 +56,15 @@ pub fn squares(code: &[String]) -> Result<Vec<Square>, String> {
                     Role::Type
                 } else if is_operand(code, i) {
                     Role::Index
-                } else if is_part || is_declared(code, &types, i, end) {
+                } else if is_part || has_declared_type(code, &types, i, end) {
                     Role::Typed
                 } else {
                     Role::Literal
                 };
                 squares.push(Square {
                     role,
-                    inner: i + 1..end,
+                    start: i,
+                    end,
                 });
                 open.push((role == Role::Typed, i));
             }
@@ -89,7 +91,7 @@ fn is_part(code: &[String], open: usize, start: usize, end: usize) -> bool {
 }
 
 /// Whether the brackets are a whole value whose type is declared: by a `let` or a constant, by a field, or by the function's result.
-fn is_declared(code: &[String], types: &[Range<usize>], start: usize, end: usize) -> bool {
+fn has_declared_type(code: &[String], types: &[Range<usize>], start: usize, end: usize) -> bool {
     let before = if start == 0 {
         ""
     } else {

@@ -1,14 +1,8 @@
 //! Follows the calls of the journal read and of the file read through the sources, and lists the arrays by value on the way. Fails on one
 //! above sixteen bytes. Takes the folder of the crates.
 
-mod code;
-mod program;
-mod search;
-mod sizes;
-mod tokens;
-
-use program::{Program, Sources};
-use search::{Array, Reached};
+use arrays::program::{sources, Program};
+use arrays::search::{Array, Reached};
 use std::path::Path;
 use std::process::ExitCode;
 
@@ -41,11 +35,14 @@ fn check(crates: &Path) -> Result<(), String> {
     list(&reached);
     match &above(&reached)[..] {
         [] => Ok(()),
-        above => Err(format!("above {LARGEST} bytes\n{}", above.join("\n"))),
+        above => Err(format!(
+            "above {LARGEST} bytes (a number that does not say its type counts for 8)\n{}",
+            above.join("\n")
+        )),
     }
 }
 
-/// Prints the functions that the reads reach, a line for each crate, and the arrays, each with the functions that name it.
+/// Prints the functions that the reads reach, a line for each crate, and the arrays, each with the functions that hold it.
 fn list(reached: &Reached) {
     let functions = reached.functions();
     println!("{} reach", READS.join(", "));
@@ -78,22 +75,4 @@ fn above(reached: &Reached) -> Vec<String> {
 
 fn crate_of(path: &str) -> &str {
     path.split("::").next().unwrap_or(path)
-}
-
-/// Every source of every crate, by its path below the folder.
-fn sources(crates: &Path) -> std::io::Result<Sources> {
-    let mut sources = Sources::new();
-    let mut folders = vec![crates.to_path_buf()];
-    while let Some(folder) = folders.pop() {
-        for entry in std::fs::read_dir(folder)? {
-            let path = entry?.path();
-            if path.is_dir() {
-                folders.push(path);
-            } else if path.extension().is_some_and(|extension| extension == "rt") {
-                let below = path.strip_prefix(crates).unwrap_or(&path);
-                sources.insert(below.display().to_string(), std::fs::read_to_string(&path)?);
-            }
-        }
-    }
-    Ok(sources)
 }

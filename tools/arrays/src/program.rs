@@ -3,11 +3,30 @@
 use crate::sizes::number_size;
 use crate::tokens::{closing, find, is_name, join, parts, split};
 use std::collections::{BTreeMap, BTreeSet};
+use std::path::Path;
 
 /// The text of each source by its path below the folder of the crates.
 pub type Sources = BTreeMap<String, String>;
 
 pub type Tokens = Vec<String>;
+
+/// Reads every source below a folder of crates.
+pub fn sources(crates: &Path) -> std::io::Result<Sources> {
+    let mut sources = Sources::new();
+    let mut folders = vec![crates.to_path_buf()];
+    while let Some(folder) = folders.pop() {
+        for entry in std::fs::read_dir(folder)? {
+            let path = entry?.path();
+            if path.is_dir() {
+                folders.push(path);
+            } else if path.extension().is_some_and(|extension| extension == "rt") {
+                let below = path.strip_prefix(crates).unwrap_or(&path);
+                sources.insert(below.display().to_string(), std::fs::read_to_string(&path)?);
+            }
+        }
+    }
+    Ok(sources)
+}
 
 /// What an item is, by its types and its code.
 pub enum Kind {
@@ -53,6 +72,14 @@ impl Item {
         }
     }
 
+    /// The types that a function takes and returns.
+    pub fn signature(&self) -> &[Tokens] {
+        match &self.kind {
+            Kind::Function(types, _) => types,
+            _ => &[],
+        }
+    }
+
     fn has_variant(&self, name: &str) -> bool {
         matches!(&self.kind, Kind::Enum(variants) if variants.iter().any(|(variant, _)| variant == name))
     }
@@ -92,11 +119,11 @@ impl Module<'_> {
 }
 
 impl Program {
-    /// Reads every crate, from its lib.rt or main.rt on.
+    /// Reads every library, from its lib.rt on. No other crate names what is in a program.
     pub fn read(sources: &Sources) -> Result<Program, String> {
         let mut program = Program::default();
         for file in sources.keys() {
-            let Some((name, "src/lib.rt" | "src/main.rt")) = file.split_once('/') else {
+            let Some((name, "src/lib.rt")) = file.split_once('/') else {
                 continue;
             };
             let scope = Scope {
@@ -130,27 +157,31 @@ impl Program {
             .sources
             .get(file)
             .ok_or(format!("there is no {file}"))?;
-        self.declare(&module.scope.module);
+        self.declare(&module.scope.module)?;
         self.modules.insert(module.scope.module.clone());
         split(source)
             .and_then(|tokens| self.read_items(module, &tokens))
             .map_err(|fault| format!("{file}: {fault}"))
     }
 
-    /// Reads items one behind the other. Each ends with a semicolon or with the first braces that close.
+    /// Reads items one behind the other. Each ends with a semicolon, or with braces that close unless it is a `use` or has a value.
     fn read_items(&mut self, module: &Module, tokens: &[String]) -> Result<(), String> {
         let mut start = 0;
         while start < tokens.len() {
-            let end = find(tokens, start, &[";", "{"])
-                .ok_or(format!("no end: {}", join(&tokens[start..])))?;
-            if tokens[end] == ";" {
-                self.read_item(module, &tokens[start..end])?;
-                start = end + 1;
+            let ends: &[&str] = match keyword(&tokens[start..]) {
+                "use" | "const" | "type" => &[";"],
+                _ => &[";", "{"],
+            };
+            let end =
+                find(tokens, start, ends).ok_or(format!("no end: {}", join(&tokens[start..])))?;
+            let is_braced = tokens[end] == "{";
+            let behind = if is_braced {
+                closing(tokens, end)? + 1
             } else {
-                let end = closing(tokens, end)? + 1;
-                self.read_item(module, &tokens[start..end])?;
-                start = end;
-            }
+                end
+            };
+            self.read_item(module, &tokens[start..behind])?;
+            start = if is_braced { behind } else { end + 1 };
         }
         Ok(())
     }
@@ -159,7 +190,6 @@ impl Program {
         let words: Vec<&str> = item.iter().map(String::as_str).collect();
         let scope = &module.scope;
         match words[..] {
-            [] | ["ghost", ..] => Ok(()),
             ["pub", ..] => self.read_item(module, without_pub(item)),
             ["extern", "\"C\"", "fn", ..] => self.read_item(module, &item[2..]),
             ["const", "fn", ..] => self.read_item(module, &item[1..]),
@@ -169,7 +199,7 @@ impl Program {
             }
             ["mod", name, "{", .., "}"] => {
                 let inner = module.inner(name);
-                self.declare(&inner.scope.module);
+                self.declare(&inner.scope.module)?;
                 self.modules.insert(inner.scope.module.clone());
                 self.read_items(&inner, &item[3..item.len() - 1])
             }
@@ -228,7 +258,7 @@ impl Program {
         match name {
             Some(name) if path.iter().chain([name]).all(|name| is_name(name)) => {
                 let brought = format!("{}::{name}", scope.module);
-                self.declare(&brought);
+                self.declare(&brought)?;
                 self.uses.insert(brought, path);
                 Ok(())
             }
@@ -237,11 +267,8 @@ impl Program {
     }
 
     fn add(&mut self, scope: &Scope, name: &str, kind: Kind) -> Result<(), String> {
-        if number_size(name).is_some() {
-            return Err(format!("{name} is a type of the language"));
-        }
         let path = format!("{}::{name}", scope.owner.as_ref().unwrap_or(&scope.module));
-        self.declare(&path);
+        self.declare(&path)?;
         self.items.insert(
             path,
             Item {
@@ -252,15 +279,28 @@ impl Program {
         Ok(())
     }
 
-    /// Notes a path that already stands for something.
-    fn declare(&mut self, path: &str) {
-        if self.is_declared(path) {
+    /// Makes way for what a path is to stand for, and notes where it stands for something already.
+    fn declare(&mut self, path: &str) -> Result<(), String> {
+        if path.rsplit("::").next().and_then(number_size).is_some() {
+            return Err(format!("{path} has the name of a number's type"));
+        }
+        if self.has(path) {
             self.twice.insert(path.to_string());
         }
+        Ok(())
     }
 
-    fn is_declared(&self, path: &str) -> bool {
+    fn has(&self, path: &str) -> bool {
         self.items.contains_key(path) || self.modules.contains(path) || self.uses.contains_key(path)
+    }
+}
+
+/// The word that says what an item is.
+fn keyword(item: &[String]) -> &str {
+    match without_pub(item) {
+        [first, second, ..] if first == "const" && second == "fn" => "fn",
+        [first, ..] => first,
+        [] => "",
     }
 }
 
@@ -339,31 +379,32 @@ impl Program {
                 .ok_or("super outside of a module")?
                 .0
                 .to_string(),
-            first if self.is_declared(&here) => {
+            first if self.has(&here) => {
                 if path.len() > 1 && self.modules.contains(first) {
                     return Err(format!("{first} is in {module}, and a crate"));
                 }
-                self.declared(&here)?
+                self.target(&here)?
             }
             first => first.to_string(),
         };
         for name in &path[1..] {
             let inner = format!("{found}::{name}");
-            if self.is_declared(&inner) {
-                found = self.declared(&inner)?;
-            } else if !self
+            let is_variant = self
                 .items
                 .get(&found)
-                .is_some_and(|item| item.has_variant(name))
-            {
-                return Ok(None);
-            }
+                .is_some_and(|item| item.has_variant(name));
+            found = match (is_variant, self.has(&inner)) {
+                (true, false) => found,
+                (false, true) => self.target(&inner)?,
+                (true, true) => return Err(format!("{inner} is there twice")),
+                (false, false) => return Ok(None),
+            };
         }
         Ok(Some(found))
     }
 
     /// What a declared path stands for: itself, or what its `use` names, in a crate or in its own module.
-    fn declared(&self, path: &str) -> Result<String, String> {
+    fn target(&self, path: &str) -> Result<String, String> {
         if self.twice.contains(path) {
             return Err(format!("{path} is there twice"));
         }
@@ -371,7 +412,7 @@ impl Program {
             return Ok(path.to_string());
         };
         let (module, name) = path.rsplit_once("::").unwrap_or(("", path));
-        let is_beside = named[0] != name && self.is_declared(&format!("{module}::{}", named[0]));
+        let is_beside = named[0] != name && self.has(&format!("{module}::{}", named[0]));
         let module = match named[0].as_str() {
             "crate" | "self" | "super" => module,
             _ if is_beside => module,
@@ -382,9 +423,7 @@ impl Program {
             module: module.to_string(),
             owner: None,
         };
-        let found = self
-            .lookup(&scope, named)?
-            .filter(|found| self.is_declared(found));
+        let found = self.lookup(&scope, named)?.filter(|found| self.has(found));
         found.ok_or(format!("no source has {}", named.join("::")))
     }
 

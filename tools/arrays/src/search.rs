@@ -5,10 +5,10 @@
 //! function holds, takes or returns by value stands in a reached text, as a type or as a literal. One behind a reference is counted with
 //! them, since a `*` or an index may hold what is there. What cannot be followed or sized is a fault.
 
-use crate::code::{declared_types, squares, Role};
+use crate::code::{let_types, squares, Role, Square};
 use crate::program::{Item, Kind, Program, Scope};
-use crate::sizes::{bytes_in, number_size, Brackets, Place};
-use crate::tokens::{closing, is_name, join, path_at};
+use crate::sizes::{bytes_in, number_size, Place};
+use crate::tokens::{closing, join, parts, paths};
 use std::collections::{BTreeMap, BTreeSet, VecDeque};
 
 /// An array in the text of an item.
@@ -23,8 +23,8 @@ pub struct Reached<'a> {
     program: &'a Program,
     /// Each item, and the one that it was first reached by.
     by: BTreeMap<String, Option<String>>,
-    /// Each item, and all that name it.
-    namers: BTreeMap<String, BTreeSet<String>>,
+    /// Each item, and the items that name it, or call a function that takes or returns it.
+    holders: BTreeMap<String, BTreeSet<String>>,
     pub arrays: Vec<Array>,
 }
 
@@ -34,7 +34,7 @@ impl<'a> Reached<'a> {
         let mut reached = Reached {
             program,
             by,
-            namers: BTreeMap::new(),
+            holders: BTreeMap::new(),
             arrays: Vec::new(),
         };
         let mut waiting: VecDeque<String> = reads.iter().map(|read| read.to_string()).collect();
@@ -57,10 +57,19 @@ impl<'a> Reached<'a> {
         let item = self.program.items.get(path).ok_or("there is none")?;
         let named = named_in(self.program, item)?;
         for next in &named {
-            self.namers
+            self.holders
                 .entry(next.clone())
                 .or_default()
                 .insert(path.to_string());
+            // what a function takes and returns, its caller holds
+            for held in self.program.items[next].signature() {
+                for next in named_in_type(self.program, &self.program.items[next].scope, held)? {
+                    self.holders
+                        .entry(next)
+                        .or_default()
+                        .insert(path.to_string());
+                }
+            }
         }
         for (text, bytes) in arrays_in(self.program, item)? {
             self.arrays.push(Array {
@@ -89,7 +98,7 @@ impl<'a> Reached<'a> {
         self.by.len() - self.functions().len()
     }
 
-    /// The functions that name an item, itself or inside of another type or constant; of a function, itself.
+    /// The functions that hold an item, itself or inside of another type or constant; of a function, itself.
     pub fn holders(&self, item: &str) -> BTreeSet<String> {
         let mut holders = BTreeSet::new();
         let mut seen = BTreeSet::new();
@@ -98,7 +107,7 @@ impl<'a> Reached<'a> {
             if self.is_function(&path) {
                 holders.insert(path);
             } else if seen.insert(path.clone()) {
-                waiting.extend(self.namers.get(&path).into_iter().flatten().cloned());
+                waiting.extend(self.holders.get(&path).into_iter().flatten().cloned());
             }
         }
         holders
@@ -131,7 +140,7 @@ fn named_in(program: &Program, item: &Item) -> Result<BTreeSet<String>, String> 
         named.extend(named_in_type(program, &item.scope, ty)?);
     }
     let code = code_of(item);
-    for range in declared_types(code) {
+    for range in let_types(code) {
         named.extend(named_in_type(program, &item.scope, &code[range])?);
     }
     named.extend(named_in_code(program, &item.scope, code)?);
@@ -144,12 +153,11 @@ fn named_in_type(
     tokens: &[String],
 ) -> Result<Vec<String>, String> {
     let mut found = Vec::new();
-    for at in starts_of_paths(tokens) {
-        let path = path_at(tokens, at);
-        match program.resolve(scope, &path)? {
+    for path in paths(tokens)? {
+        match program.resolve(scope, &path.names)? {
             Some(item) => found.push(item),
-            None if number_size(&path[0]).is_some() => {}
-            None => return Err(format!("no source has {}", path[0])),
+            None if number_size(&path.names[0]).is_some() => {}
+            None => return Err(format!("no source has {}", path.names[0])),
         }
     }
     Ok(found)
@@ -161,41 +169,30 @@ fn named_in_code(
     tokens: &[String],
 ) -> Result<Vec<String>, String> {
     let mut found = Vec::new();
-    for at in starts_of_paths(tokens) {
-        let path = path_at(tokens, at);
-        let before = if at == 0 { "" } else { tokens[at - 1].as_str() };
-        let behind = tokens
-            .get(at + 2 * path.len() - 1)
-            .map_or("", String::as_str);
-        if before == "." {
-            if behind == "(" {
+    for path in paths(tokens)? {
+        let name = &path.names[0];
+        let is_called = tokens
+            .get(path.end)
+            .is_some_and(|behind| behind == "(" || behind == "!");
+        if path.start > 0 && tokens[path.start - 1] == "." {
+            if is_called {
                 // of whatever type; a slice has one method
-                let methods = program.methods(&path[0]);
-                if methods.is_empty() && path[0] != "len" {
-                    return Err(format!("no source has a method {}", path[0]));
+                let methods = program.methods(name);
+                if methods.is_empty() && name != "len" {
+                    return Err(format!("no source has a method {name}"));
                 }
                 found.extend(methods);
             }
             continue;
         }
-        match program.resolve(scope, &path)? {
+        match program.resolve(scope, &path.names)? {
             Some(item) => found.push(item),
-            None if is_local(&path[0], behind) => {}
-            None => return Err(format!("no source has {}", path[0])),
+            // a local, or a type of the language behind `as`
+            None if !is_called && !name.starts_with(char::is_uppercase) => {}
+            None => return Err(format!("no source has {name}")),
         }
     }
     Ok(found)
-}
-
-/// The places at which a path begins.
-fn starts_of_paths(tokens: &[String]) -> Vec<usize> {
-    let is_start = |at: &usize| is_name(&tokens[*at]) && (*at == 0 || tokens[*at - 1] != "::");
-    (0..tokens.len()).filter(is_start).collect()
-}
-
-/// Whether a name that nothing in its module has may be that of a local: it is not called and begins with a small letter.
-fn is_local(name: &str, behind: &str) -> bool {
-    behind != "(" && behind != "!" && !name.starts_with(char::is_uppercase)
 }
 
 // ---- Arrays.
@@ -209,21 +206,17 @@ fn arrays_in(program: &Program, item: &Item) -> Result<Vec<(String, usize)>, Str
     let mut found = Vec::new();
     for ty in item.types() {
         for at in (0..ty.len()).filter(|at| ty[*at] == "[") {
-            let end = closing(ty, at)?;
-            found.extend(array_type(&place, &ty[at + 1..end])?);
+            found.extend(array_type(&place, &ty[at..=closing(ty, at)?])?);
         }
     }
     let code = code_of(item);
-    for square in squares(code)? {
-        let inner = &code[square.inner];
-        match square.role {
-            Role::Type => found.extend(array_type(&place, inner)?),
+    for Square { role, start, end } in squares(code)? {
+        let whole = &code[start..=end];
+        match role {
+            Role::Type => found.extend(array_type(&place, whole)?),
             Role::Literal => {
-                let text = format!("[{}]", join(inner));
-                let bytes = place
-                    .literal(inner)
-                    .ok_or(format!("the size of {text} cannot be told"))?;
-                found.push((text, bytes));
+                let size = place.literal(&code[start + 1..end]);
+                found.push(sized(whole, size)?);
             }
             Role::Index | Role::Typed => {}
         }
@@ -235,11 +228,17 @@ fn arrays_in(program: &Program, item: &Item) -> Result<Vec<(String, usize)>, Str
 }
 
 /// The array that a pair of brackets in a type stands for, unless it is a slice.
-fn array_type(place: &Place, inner: &[String]) -> Result<Option<(String, usize)>, String> {
-    let text = format!("[{}]", join(inner));
-    match place.brackets(inner) {
-        Some(Brackets::Array(bytes)) => Ok(Some((text, bytes))),
-        Some(Brackets::Slice) => Ok(None),
+fn array_type(place: &Place, whole: &[String]) -> Result<Option<(String, usize)>, String> {
+    match parts(&whole[1..whole.len() - 1], ";").len() {
+        1 => Ok(None),
+        _ => sized(whole, place.size(whole)).map(Some),
+    }
+}
+
+fn sized(array: &[String], size: Option<usize>) -> Result<(String, usize), String> {
+    let text = join(array);
+    match size {
+        Some(size) => Ok((text, size)),
         None => Err(format!("the size of {text} cannot be told")),
     }
 }

@@ -1,18 +1,12 @@
 //! The sizes of types and of array literals, in bytes.
 
 use crate::program::{Item, Kind, Program, Scope, Tokens};
-use crate::tokens::{closing, find, is_number, parts, path_at};
+use crate::tokens::{closing, find, is_number, parts, paths};
 
 /// Where a type or a value is written.
 pub struct Place<'a> {
     pub program: &'a Program,
     pub scope: &'a Scope,
-}
-
-/// A pair of brackets in a type: an array of this many bytes, or a slice.
-pub enum Brackets {
-    Array(usize),
-    Slice,
 }
 
 struct Layout {
@@ -35,7 +29,7 @@ impl Layout {
 }
 
 impl<'a> Place<'a> {
-    fn at(&self, scope: &'a Scope) -> Place<'a> {
+    fn in_scope(&self, scope: &'a Scope) -> Place<'a> {
         Place {
             program: self.program,
             scope,
@@ -44,29 +38,25 @@ impl<'a> Place<'a> {
 
     /// The item that a whole text names, with lifetimes behind it or without.
     fn item(&self, tokens: &[String]) -> Option<&'a Item> {
-        let path = path_at(tokens, 0);
-        let behind = (2 * path.len()).checked_sub(1)?;
-        if tokens.get(behind).is_some_and(|sign| sign != "<") {
+        let path = paths(tokens)
+            .ok()?
+            .into_iter()
+            .next()
+            .filter(|path| path.start == 0)?;
+        let is_lifetime =
+            |token: &String| token.starts_with('\'') || ["<", ",", ">"].contains(&token.as_str());
+        if !tokens[path.end..].iter().all(is_lifetime) {
             return None;
         }
-        let found = self.program.resolve(self.scope, &path).ok()??;
+        let found = self.program.resolve(self.scope, &path.names).ok()??;
         self.program.items.get(&found)
     }
 
     // ---- Types.
 
-    /// What a pair of brackets in a type stands for.
-    pub fn brackets(&self, inner: &[String]) -> Option<Brackets> {
-        match parts(inner, ";")[..] {
-            [element, length] => {
-                let element = self.layout(element)?;
-                element
-                    .size
-                    .checked_mul(self.length(length)?)
-                    .map(Brackets::Array)
-            }
-            _ => Some(Brackets::Slice),
-        }
+    /// The size of a type.
+    pub fn size(&self, ty: &[String]) -> Option<usize> {
+        self.layout(ty).map(|layout| layout.size)
     }
 
     fn layout(&self, ty: &[String]) -> Option<Layout> {
@@ -92,15 +82,15 @@ impl<'a> Place<'a> {
                 _ => None,
             },
             [number] if number_size(number).is_some() => number_size(number).map(Layout::number),
-            _ => self.declared(ty),
+            _ => self.named_type(ty),
         }
     }
 
     /// The layout of a declared type: the fields of a struct in their order, each aligned; of an enum a tag of one byte, and behind it the
     /// fields of a variant.
-    fn declared(&self, ty: &[String]) -> Option<Layout> {
+    fn named_type(&self, ty: &[String]) -> Option<Layout> {
         let item = self.item(ty)?;
-        let place = self.at(&item.scope);
+        let place = self.in_scope(&item.scope);
         match &item.kind {
             Kind::Alias(ty) => place.layout(ty),
             Kind::Struct(fields) => place.fields(0, fields),
@@ -136,16 +126,26 @@ impl<'a> Place<'a> {
     /// The size of an array literal, at most.
     pub fn literal(&self, inner: &[String]) -> Option<usize> {
         if let [element, length] = parts(inner, ";")[..] {
-            return element_size(self, element)?.checked_mul(self.length(length)?);
+            return self.element(element)?.checked_mul(self.length(length)?);
         }
         let elements = parts(inner, ",");
         // all have one type, and one that says it is enough
-        let sizes = elements
-            .iter()
-            .filter_map(|element| element_size(self, element));
+        let sizes = elements.iter().filter_map(|element| self.element(element));
         match elements.len() {
             0 => Some(0),
             n => sizes.min()?.checked_mul(n),
+        }
+    }
+
+    /// The size of an element of a literal, at most: a number that does not say its type may be of the widest.
+    fn element(&self, tokens: &[String]) -> Option<usize> {
+        match tokens {
+            [number] if is_number(number) => Some(suffix(number).map_or(8, |(_, size)| size)),
+            [byte] if byte.starts_with("b'") => Some(1),
+            [truth] if truth == "true" || truth == "false" => Some(1),
+            [_, cast, ty] if cast == "as" => number_size(ty),
+            [open, inner @ .., _] if open == "[" && is_group(tokens) => self.literal(inner),
+            _ => None,
         }
     }
 
@@ -178,23 +178,11 @@ impl<'a> Place<'a> {
             _ => {
                 let item = self.item(tokens)?;
                 match &item.kind {
-                    Kind::Constant(_, value) => self.at(&item.scope).length(value),
+                    Kind::Constant(_, value) => self.in_scope(&item.scope).length(value),
                     _ => None,
                 }
             }
         }
-    }
-}
-
-/// The size of an element of a literal, at most: a number that does not say its type may be of the widest.
-fn element_size(place: &Place, tokens: &[String]) -> Option<usize> {
-    match tokens {
-        [number] if is_number(number) => Some(suffix(number).map_or(8, |(_, size)| size)),
-        [byte] if byte.starts_with("b'") => Some(1),
-        [truth] if truth == "true" || truth == "false" => Some(1),
-        [_, cast, ty] if cast == "as" => number_size(ty),
-        [open, inner @ .., _] if open == "[" && is_group(tokens) => place.literal(inner),
-        _ => None,
     }
 }
 

@@ -6,8 +6,8 @@ const KEYWORDS: [&str; 25] = [
     "use", "while",
 ];
 
-/// The clauses of a contract.
-const CLAUSES: [&str; 3] = ["requires", "ensures", "ghost"];
+/// The words behind which the language of proofs begins.
+const GHOST: [&str; 3] = ["requires", "ensures", "ghost"];
 
 /// Signs of two characters in which neither may be taken for a sign of its own.
 const PAIRS: [&str; 6] = ["::", "->", "=>", "==", "!=", ".."];
@@ -30,40 +30,54 @@ pub fn is_bytes(text: &str) -> bool {
 
 /// Splits a source into its tokens.
 pub fn split(source: &str) -> Result<Vec<String>, String> {
-    let tokens = all(source);
-    let mut kept: Vec<String> = Vec::new();
-    let mut at = 0;
-    while at < tokens.len() {
-        // an attribute, `#[..]` or `#![..]`, or a clause, with a name or without
-        let opens = if tokens[at] == "#" { "[" } else { "{" };
-        let is_left_out = tokens[at] == "#" || CLAUSES.contains(&tokens[at].as_str());
-        let open = (at + 1..tokens.len().min(at + 3)).find(|i| is_left_out && tokens[*i] == opens);
-        match open {
-            Some(open) => at = closing(&tokens, open)?,
-            // the language has a string only in `extern "C"`; this is one, or what is left of a raw byte string
-            None if tokens[at].starts_with('"')
-                && kept.last().is_none_or(|before| before != "extern") =>
-            {
-                return Err(format!("not understood: {}", tokens[at]));
-            }
-            None => kept.push(tokens[at].clone()),
-        }
-        at += 1;
-    }
-    Ok(kept)
-}
-
-fn all(source: &str) -> Vec<String> {
-    let mut tokens = Vec::new();
+    let mut tokens: Vec<String> = Vec::new();
     let mut rest = source;
     while let Some(first) = rest.chars().next() {
         let (token, behind) = rest.split_at(length_of_first(rest, first));
-        if !first.is_whitespace() && !token.starts_with("//") && !token.starts_with("/*") {
-            tokens.push(token.to_string());
-        }
         rest = behind;
+        if first.is_whitespace() || token.starts_with("//") || token.starts_with("/*") {
+            continue;
+        }
+        if GHOST.contains(&token) {
+            rest = &rest[ghost_text(rest)?..];
+            continue;
+        }
+        // the language has a string only in `extern "C"`; this is one, or a part of a raw byte string
+        if first == '"' && tokens.last().is_none_or(|before| before != "extern") {
+            return Err(format!("not understood: {token}"));
+        }
+        tokens.push(token.to_string());
     }
-    tokens
+    without_attributes(tokens)
+}
+
+fn without_attributes(mut tokens: Vec<String>) -> Result<Vec<String>, String> {
+    while let Some(at) = tokens.iter().position(|token| token == "#") {
+        let open = tokens[at..].iter().position(|token| token == "[");
+        let end = closing(&tokens, at + open.ok_or("an attribute of nothing")?)?;
+        tokens.drain(at..=end);
+    }
+    Ok(tokens)
+}
+
+/// The length of what stands behind one of the words that begin a text in the language of proofs: a `use` up to its semicolon, or a
+/// clause up to its last brace. Its braces are counted as they stand, so it may have no comment and no quoted brace.
+fn ghost_text(rest: &str) -> Result<usize, String> {
+    let mut depth = 0;
+    let is_use = rest.trim_start().starts_with("use ");
+    let end = rest.find(|c: char| {
+        depth += (c == '{') as i32 - (c == '}') as i32;
+        depth == 0 && c == if is_use { ';' } else { '}' }
+    });
+    let length = end.ok_or("a contract has no end")? + 1;
+    let text = &rest[..length];
+    match ["--", "{-", "//", "/*", "\"", "'{", "'}"]
+        .iter()
+        .find(|sign| text.contains(**sign))
+    {
+        Some(sign) => Err(format!("{sign} in a contract")),
+        None => Ok(length),
+    }
 }
 
 /// The length of what a source begins with: a comment, a literal, a word, a number or a sign.
@@ -166,18 +180,42 @@ pub fn parts<'a>(tokens: &'a [String], separator: &str) -> Vec<&'a [String]> {
     parts
 }
 
-/// The names of the path that begins at a place.
-pub fn path_at(tokens: &[String], start: usize) -> Vec<String> {
-    let mut path = Vec::new();
-    let mut at = start;
-    while tokens.get(at).is_some_and(|token| is_name(token)) {
-        path.push(tokens[at].clone());
-        if tokens.get(at + 1).is_none_or(|sign| sign != "::") {
-            break;
+/// Names joined by `::`, and the place behind the last.
+pub struct Path {
+    pub names: Vec<String>,
+    pub start: usize,
+    pub end: usize,
+}
+
+/// The paths in a text. A `::` that is part of none, as before a lifetime, is a fault.
+pub fn paths(tokens: &[String]) -> Result<Vec<Path>, String> {
+    let mut paths = Vec::new();
+    let mut at = 0;
+    while at < tokens.len() {
+        let start = at;
+        let mut names = Vec::new();
+        while tokens.get(at).is_some_and(|token| is_name(token)) {
+            names.push(tokens[at].clone());
+            at += 1;
+            if tokens.get(at).is_none_or(|sign| sign != "::") {
+                break;
+            }
+            at += 1;
         }
-        at += 2;
+        if names.is_empty() {
+            at += 1;
+        } else {
+            paths.push(Path {
+                names,
+                start,
+                end: at,
+            });
+        }
+        if tokens[at - 1] == "::" {
+            return Err(format!("not understood: {}", join(&tokens[start..])));
+        }
     }
-    path
+    Ok(paths)
 }
 
 /// Tokens as a text of one line.

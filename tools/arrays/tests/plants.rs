@@ -1,18 +1,19 @@
 //! The search, tried on the sources of the repository with something planted in them.
 
-use std::collections::BTreeMap;
+use arrays::program::{sources, Sources};
 use std::fs;
-use std::path::{Path, PathBuf};
+use std::path::Path;
 use std::process::Command;
 use std::sync::atomic::{AtomicUsize, Ordering};
 use std::sync::OnceLock;
 
 /// The sources of the crates by their paths, and what is planted in them.
-struct Planted(BTreeMap<PathBuf, String>);
+struct Planted(Sources);
 
 /// What the search answers.
 struct Answer {
     passes: bool,
+    listed: String,
     /// How many functions it followed.
     functions: usize,
     /// Each array: its item, and its size.
@@ -23,24 +24,11 @@ struct Answer {
 impl Planted {
     fn nothing() -> Planted {
         let crates = Path::new(env!("CARGO_MANIFEST_DIR")).join("../../crates");
-        let mut sources = BTreeMap::new();
-        let mut folders = vec![crates.clone()];
-        while let Some(folder) = folders.pop() {
-            for entry in fs::read_dir(folder).unwrap() {
-                let path = entry.unwrap().path();
-                if path.is_dir() {
-                    folders.push(path);
-                } else if path.extension().is_some_and(|extension| extension == "rt") {
-                    let below = path.strip_prefix(&crates).unwrap().to_path_buf();
-                    sources.insert(below, fs::read_to_string(path).unwrap());
-                }
-            }
-        }
-        Planted(sources)
+        Planted(sources(&crates).unwrap())
     }
 
     fn file(&mut self, name: &str) -> &mut String {
-        self.0.get_mut(&Path::new(name).join("src/lib.rt")).unwrap()
+        self.0.get_mut(&format!("{name}/src/lib.rt")).unwrap()
     }
 
     /// Plants a statement at the beginning of a function.
@@ -53,9 +41,9 @@ impl Planted {
     }
 
     /// Plants a field in a struct.
-    fn field(mut self, name: &str, of: &str, field: &str) -> Planted {
+    fn field(mut self, name: &str, record: &str, field: &str) -> Planted {
         let file = self.file(name);
-        let head = format!("pub struct {of} {{\n");
+        let head = format!("pub struct {record} {{\n");
         let start = file.find(&head).unwrap();
         file.insert_str(start + head.len(), field);
         self
@@ -69,7 +57,7 @@ impl Planted {
 
     /// Plants the file of a module.
     fn module(mut self, path: &str, items: &str) -> Planted {
-        self.0.insert(PathBuf::from(path), items.to_string());
+        self.0.insert(path.to_string(), items.to_string());
         self
     }
 
@@ -104,6 +92,7 @@ impl Planted {
             passes: output.status.success(),
             functions: listed.lines().find_map(functions).unwrap_or(0),
             arrays: listed.lines().filter_map(array).collect(),
+            listed,
             fault: String::from_utf8(output.stderr).unwrap(),
         }
     }
@@ -173,7 +162,7 @@ fn an_array() {
     let way = format!("{way}journal_page::give > kept_writer::put_kept");
     assert_eq!(
         answer.fault,
-        format!("check-arrays: above 16 bytes\n17 bytes: [0u8; 17], by {way}\n")
+        format!("check-arrays: above 16 bytes (a number that does not say its type counts for 8)\n17 bytes: [0u8; 17], by {way}\n")
     );
 }
 
@@ -181,6 +170,13 @@ fn an_array() {
 fn a_struct_that_holds_one() {
     let given = Planted::nothing().field("journal_page", "Given", "    pub spare: [u8; 17],\n");
     given.finds(&[("journal_page::Given", 17)]);
+    let inner = Planted::nothing().items("journal_page", "pub struct Inner { spare: [u8; 17] }");
+    let inner = inner
+        .field("journal_page", "Given", "    pub inner: Inner,\n")
+        .search();
+    assert!(!inner.passes);
+    let listed = "17 bytes: [u8; 17] in journal_page::Inner, by\n    journal_page::fill journal_page::give\n";
+    assert!(inner.listed.contains(listed), "{}", inner.listed);
 }
 
 #[test]
@@ -290,7 +286,7 @@ fn behind_a_reference_and_in_a_slice() {
         .finds(&[("kept_writer::planted", 17)]);
     planted("fn planted(s: &mut [[u8; 17]]) -> u8 { let spare = s[0]; spare[0] }")
         .finds(&[("kept_writer::planted", 17)]);
-    planted(r#"fn planted(n: usize) -> u8 { let spare = *b"'\"seventeen\\byte\x00"; spare[n] }"#)
+    planted(r#"fn planted(n: usize) -> u8 { let spare = *b"'\"seven\x00teen\\byte"; spare[n] }"#)
         .finds(&[("kept_writer::planted", 17)]);
 }
 
@@ -305,14 +301,11 @@ fn in_a_method() {
             fn new(n: usize) -> Self { Self { n } }
             fn first(self) -> u8 { let spare = [0u8; Self::N]; spare[0] }
         }
-        enum Other { A }
-        impl Other { fn first(mut self) -> u8 { let spare = [0u8; 18]; spare[0] } }
+        struct Other { spare: [u8; 18] }
+        impl Other { fn first(mut self) -> u8 { 0 } }
         ",
     )
-    .finds(&[
-        ("kept_writer::Made::first", 17),
-        ("kept_writer::Other::first", 18),
-    ]);
+    .finds(&[("kept_writer::Made::first", 17), ("kept_writer::Other", 18)]);
     planted(
         "
         fn planted(n: usize) -> u8 { Found::first(n) }
@@ -334,6 +327,17 @@ fn in_a_module() {
         ",
     )
     .finds(&[("kept_writer::other", 18), ("kept_writer::spare", 17)]);
+    planted(
+        "
+        fn planted(n: usize) -> u8 { outer::inner::first(n) }
+        mod outer {
+            pub mod inner { pub fn first(n: usize) -> u8 { super::spare(n) } }
+            fn spare(n: usize) -> u8 { let spare = [0u8; 17]; spare[n] }
+        }
+        fn spare(n: usize) -> u8 { 0 }
+        ",
+    )
+    .finds(&[("kept_writer::outer::spare", 17)]);
     let first = "pub fn first(n: usize) -> u8 { let spare = [0u8; 17]; spare[n] }";
     for named in [
         "use inner::first as other; fn planted(n: usize) -> u8 { other(n) }",
@@ -377,7 +381,8 @@ fn of_literals() {
         ("[b'a', b'\\'']", 2),
         ("[true; 3]", 3),
         ("[0u8; HALF + HALF * 2 - 0b10]", 25),
-        ("[0u8; 40 - HALF - 1 * 0o7]", 24),
+        ("[0u8; 40 - HALF - 1 * 0o11]", 22),
+        ("[1i8; 3]", 3),
         ("[0u8; 40 / HALF % 3]", 1),
         ("[]", 0),
         ("if n == 0 { [0u8; 17] } else { return 0; }", 17),
@@ -387,8 +392,12 @@ fn of_literals() {
         ("[0u8; 17][n]", 17),
         ("first([0u8; 17][n])", 17),
         ("{ let inner = n; [0u8; 17] }", 17),
+        ("{ if n == 0 { return 0; } [0u8; 17] }", 17),
+        ("loop { break [0u8; 17]; }", 17),
+        ("{ return [0u8; 17][n]; }", 17),
+        ("Key { n: [0u8; 17][n] }", 17),
     ] {
-        let others = "const HALF: usize = 3 * (LEAST - 1) as usize; const LEAST: usize = 4usize; fn first(n: u8) -> u8 { n }";
+        let others = "const HALF: usize = 3 * (LEAST - 1) as usize; const LEAST: usize = 4usize; fn first(n: u8) -> u8 { n } struct Key { n: u8 }";
         let function = format!("fn planted(n: usize) -> u8 {{ let spare = {literal}; 0 }}");
         planted(&format!("{others} {function}")).finds(&[("kept_writer::planted", size)]);
     }
@@ -407,15 +416,17 @@ fn of_types() {
         ("&mut u8", 24),
         ("Pair", 36),
         ("Found", 72),
-        ("Other", 12),
+        ("Other", 18),
+        ("Held<'static>", 72),
         ("usn_record::Version", 3),
     ] {
         planted(&format!(
             "
             fn planted(spare: [{of}; 3]) -> u8 {{ 0 }}
             struct Pair {{ a: u8, b: u32, c: u16 }}
+            struct Held<'a> {{ s: &'a [u8], at: u8 }}
             enum Found {{ A(u16), B {{ x: u64, y: bool }}, C }}
-            enum Other {{ A(u16), B(u8, u8, u8) }}
+            enum Other {{ A(u16), B(u8, u8, u8, u8) }}
             "
         ))
         .finds(&[("kept_writer::planted", size)]);
@@ -440,6 +451,8 @@ fn of_a_literal_whose_type_is_declared() {
     planted("fn planted(n: usize) -> u8 { let spare: [[u8; 2]; 2] = [[0, 0], [n, n]]; 0 }")
         .finds(&[("kept_writer::planted", 4), ("kept_writer::planted", 2)]);
     // and not by what stands before it otherwise
+    planted("fn planted(n: usize) -> u8 { FIRST } const FIRST: u8 = [0u8; 17][3];")
+        .finds(&[("kept_writer::FIRST", 17)]);
     planted("fn planted(n: usize) -> u8 { let spare: [u8; 4] = [[0u8; 4]; 17][3]; 0 }").finds(&[
         ("kept_writer::planted", 4),
         ("kept_writer::planted", 68),
@@ -468,6 +481,8 @@ fn not_of_slices_indices_comments_and_contracts() {
         ",
     )
     .finds(&[("kept_writer::Key", 2)]);
+    planted("fn planted(n: usize) -> u8 { 0 } const N: usize = if ONE == 1 { 3 } else { 4 }; const ONE: usize = 1;")
+        .finds(&[]);
 }
 
 // ---- What is not passed over.
@@ -496,6 +511,11 @@ fn what_cannot_be_followed() {
             "no source has SPARE",
         ),
         ("fn planted(n: spare) -> u8 { 0 }", "no source has spare"),
+        ("fn planted(n: usize) -> u8 { let x: spare = 0; 0 }", "no source has spare"),
+        (
+            "struct R<'a> { s: &'a [u8] } impl<'a> R<'a> { fn first(n: usize) -> u8 { 0 } } fn planted(n: usize) -> u8 { R::<'_>::first(n) }",
+            "not understood: R :: < '_ > :: first ( n ) }",
+        ),
         (
             "use io::io; fn planted(n: usize) -> u8 { io[n] }",
             "no source has io::io",
@@ -543,6 +563,10 @@ fn what_a_name_stands_for_twice() {
             twice,
         ),
         (
+            "use a::spare; mod spare { } fn planted(n: usize) -> u8 { spare[n] }",
+            twice,
+        ),
+        (
             "mod le { } use le::put; fn planted(n: usize) -> u8 { put(n) }",
             "le is in kept_writer, and a crate",
         ),
@@ -559,11 +583,26 @@ fn what_a_name_stands_for_twice() {
             "no source has Found::first",
         ),
         (
+            "enum Found { A([u8; 17]) } impl Found { fn A(n: [u8; 4]) -> u8 { 0 } } fn planted(n: usize) -> u8 { let x = Found::A([0; 17]); 0 }",
+            "kept_writer::Found::A is there twice",
+        ),
+        (
             "type u8 = u64; fn planted(n: usize) -> u8 { 0 }",
-            "u8 is a type of the language",
+            "kept_writer::u8 has the name of a number's type",
+        ),
+        (
+            "use b::spare as u8; fn planted(n: usize) -> u8 { 0 }",
+            "kept_writer::u8 has the name of a number's type",
         ),
     ] {
         planted(&format!("{there} {items}")).fails(fault);
+    }
+    for module in ["mod spare; use a::spare;", "use a::spare; mod spare;"] {
+        planted(&format!(
+            "{there} {module} fn planted(n: usize) -> u8 {{ spare[n] }}"
+        ))
+        .module("kept_writer/src/spare.rt", "")
+        .fails(twice);
     }
 }
 
@@ -579,11 +618,44 @@ fn what_cannot_be_sized() {
         "[Found::first(n), Found::first(n)]",
         "[0u8; planted(1)]",
         "[0u8; 1 << 4]",
+        "[0u8; ONE << 5]",
+        "[0u8; (ONE < 2) as usize]",
+        "[[0u8; 2][n]; 2]",
     ] {
-        let found = "enum Found { A, B(u64) } impl Found { fn first(n: usize) -> u64 { 0 } }";
+        let found = "const ONE: usize = 1; enum Found { A, B(u64) } impl Found { fn first(n: usize) -> u64 { 0 } }";
         planted(&format!(
             "{found} fn planted(n: usize) -> u8 {{ let spare = {array}; 0 }}"
         ))
         .fails(" cannot be told");
+    }
+}
+
+#[test]
+fn what_a_contract_may_hide() {
+    for clause in [
+        "λ b'. ⌜ b' ≡ b' ⌝",
+        "⌜ length (now s) < 2 ^ 63 ⌝",
+        "λ r. ⌜ r ≡ record { at = 1 } ⌝",
+    ] {
+        planted(&format!(
+            "
+            fn planted(n: usize) -> u8
+                ensures {{ {clause} }}
+            {{ let spare = [0u8; 17]; spare[n] }}
+            fn other(n: usize) -> u8
+                ensures named {{ {clause} }}
+            {{ 0 }}
+            "
+        ))
+        .finds(&[("kept_writer::planted", 17)]);
+    }
+    for sign in ["--", "{-", "//", "/*", "\"", "'{'"] {
+        let clause = format!("fn planted(n: usize) -> u8 ensures {{ {sign} }}\n {{ 0 }} }}");
+        let answer = planted(&clause).search();
+        assert!(
+            !answer.passes && answer.fault.contains(" in a contract"),
+            "{}",
+            answer.fault
+        );
     }
 }
