@@ -221,11 +221,13 @@ impl Program {
                 )
             }
             ["type", name, "=", ..] => self.add(scope, name, Kind::Alias(item[3..].to_vec())),
-            ["struct", name, ..] => self.add(scope, name, Kind::Struct(fields(item))),
+            ["struct", name, ..] => self.add(scope, name, Kind::Struct(fields(&item[1..])?)),
             ["enum", name, "{", .., "}"] => {
-                let variants = parts(&item[3..item.len() - 1], ",").into_iter();
-                let variants = variants.map(|variant| (variant[0].clone(), fields(variant)));
-                self.add(scope, name, Kind::Enum(variants.collect()))
+                let mut variants = Vec::new();
+                for variant in parts(&item[3..item.len() - 1], ",") {
+                    variants.push((variant[0].clone(), fields(variant)?));
+                }
+                self.add(scope, name, Kind::Enum(variants))
             }
             _ => Err(format!("not understood: {}", join(item))),
         }
@@ -336,19 +338,21 @@ fn function(item: &[String]) -> Result<Kind, String> {
     Ok(Kind::Function(types, item[body..].to_vec()))
 }
 
-/// The types of a struct's or a variant's fields.
-fn fields(tokens: &[String]) -> Vec<Tokens> {
-    let Some(open) = find(tokens, 0, &["{", "("]) else {
-        return Vec::new();
+/// The types of a struct's or a variant's fields, from its name on.
+fn fields(tokens: &[String]) -> Result<Vec<Tokens>, String> {
+    let Some(open) = find(tokens, 0, &["{", "(", "="]) else {
+        return Ok(Vec::new());
     };
+    // nothing stands behind the fields, and no number in their place
+    if tokens[open] == "=" || closing(tokens, open)? + 1 != tokens.len() {
+        return Err(format!("not understood: {}", join(tokens)));
+    }
     let type_in = |field: &[String]| match find(field, 0, &[":"]) {
         Some(colon) => field[colon + 1..].to_vec(),
         None => without_pub(field).to_vec(),
     };
-    parts(&tokens[open + 1..tokens.len() - 1], ",")
-        .into_iter()
-        .map(type_in)
-        .collect()
+    let fields = parts(&tokens[open + 1..tokens.len() - 1], ",");
+    Ok(fields.into_iter().map(type_in).collect())
 }
 
 // ---- Names.

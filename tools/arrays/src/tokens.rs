@@ -61,20 +61,23 @@ fn without_attributes(mut tokens: Vec<String>) -> Result<Vec<String>, String> {
 }
 
 /// The length of what stands behind one of the words that begin a text in the language of proofs: a `use` up to its semicolon, or a
-/// clause up to its last brace. Its braces are counted as they stand, so it may have no comment and no quoted brace.
+/// clause, with a name or without, up to its last brace. Its braces are counted as they stand, so it may have no comment and no quoted
+/// brace.
 fn ghost_text(rest: &str) -> Result<usize, String> {
+    let is_use = rest.split_whitespace().next() == Some("use");
+    let head = &rest[..rest.find('{').unwrap_or(rest.len())];
+    if !is_use && head.contains(|c: char| !c.is_alphanumeric() && !c.is_whitespace() && c != '_') {
+        return Err(format!("not understood: {}", head.trim()));
+    }
     let mut depth = 0;
-    let is_use = rest.trim_start().starts_with("use ");
     let end = rest.find(|c: char| {
         depth += (c == '{') as i32 - (c == '}') as i32;
         depth == 0 && c == if is_use { ';' } else { '}' }
     });
     let length = end.ok_or("a contract has no end")? + 1;
     let text = &rest[..length];
-    match ["--", "{-", "//", "/*", "\"", "'{", "'}"]
-        .iter()
-        .find(|sign| text.contains(**sign))
-    {
+    let signs = ["--", "{-", "//", "/*", "\"", "'{", "'}"];
+    match signs.iter().find(|sign| text.contains(**sign)) {
         Some(sign) => Err(format!("{sign} in a contract")),
         None => Ok(length),
     }

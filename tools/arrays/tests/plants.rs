@@ -533,6 +533,18 @@ fn what_cannot_be_followed() {
             "not understood: \"first\"",
         ),
         (
+            "struct Held<'a>(&'a u8, [u8; 17]) where 'a: 'a; fn planted(n: usize) -> u8 { 0 }",
+            "not understood: Held < 'a > ( & 'a u8, [u8; 17] ) where 'a : 'a",
+        ),
+        (
+            "enum Found { A = [1u8; 17][3] as isize, B } fn planted(n: usize) -> u8 { 0 }",
+            "not understood: A = [1u8; 17] [3] as isize",
+        ),
+        (
+            "struct Held { ghost n: { u8 } } fn planted(n: usize) -> u8 { 0 }",
+            "not understood: n:",
+        ),
+        (
             "fn planted(n: usize) -> u8 { br#\"C\"#[n] }",
             "not understood: \"C\"",
         ),
@@ -649,6 +661,14 @@ fn what_a_contract_may_hide() {
         ))
         .finds(&[("kept_writer::planted", 17)]);
     }
+    planted(
+        "
+        ghost use
+        lib.ListN;
+        fn planted(n: usize) -> u8 { let spare = [0u8; 17]; spare[n] }
+        ",
+    )
+    .finds(&[("kept_writer::planted", 17)]);
     for sign in ["--", "{-", "//", "/*", "\"", "'{'"] {
         let clause = format!("fn planted(n: usize) -> u8 ensures {{ {sign} }}\n {{ 0 }} }}");
         let answer = planted(&clause).search();
