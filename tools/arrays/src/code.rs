@@ -49,14 +49,14 @@ pub fn squares(code: &[String]) -> Result<Vec<Square>, String> {
             }
             "[" => {
                 let end = closing(code, i)?;
-                let is_part = open
+                let is_typed_part = open
                     .last()
                     .is_some_and(|(is_typed, start)| *is_typed && is_part(code, *start, i, end));
                 let role = if types.iter().any(|range| range.contains(&i)) {
                     Role::Type
                 } else if is_operand(code, i) {
                     Role::Index
-                } else if is_part || has_declared_type(code, &types, i, end) {
+                } else if is_typed_part || has_declared_type(code, &types, i, end) {
                     Role::Typed
                 } else {
                     Role::Literal

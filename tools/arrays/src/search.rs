@@ -6,7 +6,7 @@
 //! them, since a `*` or an index may hold what is there. What cannot be followed or sized is a fault.
 
 use crate::code::{let_types, squares, Role, Square};
-use crate::program::{Item, Kind, Program, Scope};
+use crate::program::{Item, Kind, Program};
 use crate::sizes::{bytes_in, number_size, Place};
 use crate::tokens::{closing, join, parts, paths};
 use std::collections::{BTreeMap, BTreeSet, VecDeque};
@@ -54,24 +54,23 @@ impl<'a> Reached<'a> {
 
     /// Notes the arrays of an item, and answers what it names.
     fn visit(&mut self, path: &str) -> Result<BTreeSet<String>, String> {
-        let item = self.program.items.get(path).ok_or("there is none")?;
-        let named = named_in(self.program, item)?;
+        let items = &self.program.items;
+        let item = items.get(path).ok_or("there is none")?;
+        let named = named_in(&self.place(item), item)?;
+        let mut held = named.clone();
         for next in &named {
-            self.holders
-                .entry(next.clone())
-                .or_default()
-                .insert(path.to_string());
             // what a function takes and returns, its caller holds
-            for held in self.program.items[next].signature() {
-                for next in named_in_type(self.program, &self.program.items[next].scope, held)? {
-                    self.holders
-                        .entry(next)
-                        .or_default()
-                        .insert(path.to_string());
-                }
+            for ty in items[next].signature() {
+                held.extend(named_in_type(&self.place(&items[next]), ty)?);
             }
         }
-        for (text, bytes) in arrays_in(self.program, item)? {
+        for next in held {
+            self.holders
+                .entry(next)
+                .or_default()
+                .insert(path.to_string());
+        }
+        for (text, bytes) in arrays_in(&self.place(item), item)? {
             self.arrays.push(Array {
                 item: path.to_string(),
                 text,
@@ -79,6 +78,14 @@ impl<'a> Reached<'a> {
             });
         }
         Ok(named)
+    }
+
+    /// The place at which an item's text is written.
+    fn place(&self, item: &'a Item) -> Place<'a> {
+        Place {
+            program: self.program,
+            scope: &item.scope,
+        }
     }
 
     fn is_function(&self, path: &str) -> bool {
@@ -134,27 +141,23 @@ fn code_of(item: &Item) -> &[String] {
 // ---- Names.
 
 /// The items that an item's text names.
-fn named_in(program: &Program, item: &Item) -> Result<BTreeSet<String>, String> {
+fn named_in(place: &Place, item: &Item) -> Result<BTreeSet<String>, String> {
     let mut named = BTreeSet::new();
     for ty in item.types() {
-        named.extend(named_in_type(program, &item.scope, ty)?);
+        named.extend(named_in_type(place, ty)?);
     }
     let code = code_of(item);
     for range in let_types(code) {
-        named.extend(named_in_type(program, &item.scope, &code[range])?);
+        named.extend(named_in_type(place, &code[range])?);
     }
-    named.extend(named_in_code(program, &item.scope, code)?);
+    named.extend(named_in_code(place, code)?);
     Ok(named)
 }
 
-fn named_in_type(
-    program: &Program,
-    scope: &Scope,
-    tokens: &[String],
-) -> Result<Vec<String>, String> {
+fn named_in_type(place: &Place, tokens: &[String]) -> Result<Vec<String>, String> {
     let mut found = Vec::new();
     for path in paths(tokens)? {
-        match program.resolve(scope, &path.names)? {
+        match place.program.resolve(place.scope, &path.names)? {
             Some(item) => found.push(item),
             None if number_size(&path.names[0]).is_some() => {}
             None => return Err(format!("no source has {}", path.names[0])),
@@ -163,21 +166,16 @@ fn named_in_type(
     Ok(found)
 }
 
-fn named_in_code(
-    program: &Program,
-    scope: &Scope,
-    tokens: &[String],
-) -> Result<Vec<String>, String> {
+fn named_in_code(place: &Place, tokens: &[String]) -> Result<Vec<String>, String> {
     let mut found = Vec::new();
     for path in paths(tokens)? {
         let name = &path.names[0];
-        let is_called = tokens
-            .get(path.end)
-            .is_some_and(|behind| behind == "(" || behind == "!");
+        let behind = tokens.get(path.end).map_or("", String::as_str);
+        let is_called = behind == "(" || behind == "!";
         if path.start > 0 && tokens[path.start - 1] == "." {
             if is_called {
                 // of whatever type; a slice has one method
-                let methods = program.methods(name);
+                let methods = place.program.methods(name);
                 if methods.is_empty() && name != "len" {
                     return Err(format!("no source has a method {name}"));
                 }
@@ -185,7 +183,7 @@ fn named_in_code(
             }
             continue;
         }
-        match program.resolve(scope, &path.names)? {
+        match place.program.resolve(place.scope, &path.names)? {
             Some(item) => found.push(item),
             // a local, or a type of the language behind `as`
             None if !is_called && !name.starts_with(char::is_uppercase) => {}
@@ -198,22 +196,18 @@ fn named_in_code(
 // ---- Arrays.
 
 /// The arrays of an item's text, each with its size.
-fn arrays_in(program: &Program, item: &Item) -> Result<Vec<(String, usize)>, String> {
-    let place = Place {
-        program,
-        scope: &item.scope,
-    };
+fn arrays_in(place: &Place, item: &Item) -> Result<Vec<(String, usize)>, String> {
     let mut found = Vec::new();
     for ty in item.types() {
         for at in (0..ty.len()).filter(|at| ty[*at] == "[") {
-            found.extend(array_type(&place, &ty[at..=closing(ty, at)?])?);
+            found.extend(array_type(place, &ty[at..=closing(ty, at)?])?);
         }
     }
     let code = code_of(item);
     for Square { role, start, end } in squares(code)? {
         let whole = &code[start..=end];
         match role {
-            Role::Type => found.extend(array_type(&place, whole)?),
+            Role::Type => found.extend(array_type(place, whole)?),
             Role::Literal => {
                 let size = place.literal(&code[start + 1..end]);
                 found.push(sized(whole, size)?);

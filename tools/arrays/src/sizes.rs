@@ -15,7 +15,7 @@ struct Layout {
 }
 
 impl Layout {
-    const fn number(size: usize) -> Layout {
+    fn number(size: usize) -> Layout {
         Layout { size, align: size }
     }
 

@@ -183,7 +183,7 @@ pub fn parts<'a>(tokens: &'a [String], separator: &str) -> Vec<&'a [String]> {
     parts
 }
 
-/// Names joined by `::`, and the place behind the last.
+/// Names joined by `::`, from the first one's place to the place behind the last.
 pub struct Path {
     pub names: Vec<String>,
     pub start: usize,

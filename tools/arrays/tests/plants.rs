@@ -158,12 +158,13 @@ fn an_array() {
         .inside("kept_writer", "put_kept", SPARE)
         .search();
     assert!(!answer.passes);
-    let way = "journal_read::read_journal > journal_read::read_checked > journal_read::reply_from > journal_page::fill > ";
-    let way = format!("{way}journal_page::give > kept_writer::put_kept");
-    assert_eq!(
-        answer.fault,
-        format!("check-arrays: above 16 bytes (a number that does not say its type counts for 8)\n17 bytes: [0u8; 17], by {way}\n")
+    let told = &answer.fault;
+    assert!(told.starts_with("check-arrays: above 16 bytes"), "{told}");
+    assert!(
+        told.contains("\n17 bytes: [0u8; 17], by journal_read::read_journal > "),
+        "{told}"
     );
+    assert!(told.ends_with(" > kept_writer::put_kept\n"), "{told}");
 }
 
 #[test]
