@@ -25,6 +25,10 @@
  * Numbers. Replies and inputs are little-endian, laid out as [MS-FSCC] has them. A number of 64 bits is passed as its bit pattern;
  * where a layout has a signed one (i64), 2^63 and above is negative.
  *
+ * Names. A name is code units of 16 bits, little-endian: at most USN_NAME_MAX bytes, an even number of them, and no code unit 0, 0x2F ('/')
+ * or 0x5C ('\\'). That is asked wherever a name is judged: of a post, of every record in a ring, of every link, of a record that is read
+ * and of every record in an image. The name of a post, and of a record in a ring or an image, is not empty.
+ *
  * Versions. A caller names the lowest and the highest version of a record that it can read. The reply has version 3 if the highest is
  * 3 or more, else version 2. Both are refused if the lowest is above the highest or above 3, or the highest below 2.
  */
@@ -126,7 +130,7 @@ typedef struct usn_file {
 /* One link of a file. */
 typedef struct usn_link {
     uint32_t place;        /* where its name begins in the name pool */
-    uint32_t length;       /* the name's length in bytes: even, 0 to USN_NAME_MAX, inside the pool */
+    uint32_t length;       /* the name's length in bytes: 0 to USN_NAME_MAX, inside the pool */
     uint32_t short_length; /* its short name's length; only 0 or not matters */
 } usn_link;
 
@@ -206,8 +210,8 @@ uint32_t usn_finish(usn_volume *volume);
  * Posts a change to the file of this name. The oldest records are dropped, as few as needed, and the new record's bytes are written to
  * the ring and no others. Stores first and last, and in *usn, the file's Usn, the record's Usn, which is the new LastUsn.
  * Skipped, USN_SUCCESS with nothing changed: no support for the journal, no active journal, or reason 0.
- * FILE_CORRUPT_ERROR for a ring that is not sound; INVALID_PARAMETER for a name that is odd, empty or above USN_NAME_MAX bytes;
- * DISK_FULL if LastUsn would reach USN_POSITION_LIMIT.
+ * FILE_CORRUPT_ERROR for a ring that is not sound; INVALID_PARAMETER for a name that is odd, empty, above USN_NAME_MAX bytes or
+ * with a code unit 0, 0x2F or 0x5C; DISK_FULL if LastUsn would reach USN_POSITION_LIMIT.
  */
 uint32_t usn_post(usn_volume *volume, uint8_t *ring, size_t ring_size, usn_change change,
                   const uint8_t *name, size_t name_size, uint64_t *usn);

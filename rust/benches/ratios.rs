@@ -107,6 +107,11 @@ fn model_change() -> model::Change {
     }
 }
 
+/// A name of `size` bytes: the letter a over and over, in units of 16 bits.
+fn letters(size: usize) -> Vec<u8> {
+    b"a\0".repeat(size / 2)
+}
+
 /// A ring of `capacity` bytes that has gone round more than once, full of records with names of `size` bytes.
 fn full(capacity: usize, size: usize) -> Pair {
     let mut p = Pair {
@@ -125,7 +130,7 @@ fn full(capacity: usize, size: usize) -> Pair {
     };
     assert_eq!(p.library.create(ID), lanhduxe::Status::Success);
     assert_eq!(model::create(&mut p.model, ID), model::status::SUCCESS);
-    let name = vec![0x61; size];
+    let name = letters(size);
     let posts = 5 * capacity / (2 * (76 + size)) + 2;
     for _ in 0..posts {
         post_both(&mut p, &name);
@@ -152,7 +157,7 @@ fn post_both(p: &mut Pair, name: &[u8]) {
 
 fn posts(capacity: usize, size: usize) -> Timed {
     let mut p = full(capacity, size);
-    let name = vec![0x61; size];
+    let name = letters(size);
     let [a, b] = &mut p.rings;
     let (c, d) = (change(), model_change());
     let (mut u, mut w) = (0, 0);
@@ -337,7 +342,7 @@ fn disk() -> Disk {
 
 fn file_reads() -> Timed {
     let d = disk();
-    let pool = [0x61; 64];
+    let pool = letters(64);
     let links = [
         lanhduxe::Link {
             place: 0,
@@ -449,11 +454,13 @@ fn main() {
     heading("call");
     let post = posts(65_536, 2);
     row("post on a full ring of 64 KiB, name of 2 bytes", &post);
-    row(
-        "post on a full ring of 64 KiB, name of 510 bytes",
-        &posts(65_536, 510),
-    );
-    let (short, long) = (full(65_536, 2), full(65_536, 510));
+    for size in [24, 510] {
+        row(
+            &format!("post on a full ring of 64 KiB, name of {size} bytes"),
+            &posts(65_536, size),
+        );
+    }
+    let (short, usual, long) = (full(65_536, 2), full(65_536, 24), full(65_536, 510));
     for version in [2, 3] {
         row(
             &format!("read of a full ring into 64 KiB, names of 2 bytes, V{version}"),
@@ -465,6 +472,10 @@ fn main() {
         );
     }
     row(
+        "read of a full ring into 64 KiB, names of 24 bytes, V3",
+        &reads(&usual, !0, 3),
+    );
+    row(
         "read that selects nothing, names of 2 bytes",
         &reads(&short, CLOSED, 3),
     );
@@ -472,7 +483,7 @@ fn main() {
         "read that selects nothing, names of 510 bytes",
         &reads(&long, CLOSED, 3),
     );
-    for (size, p) in [(2, &short), (510, &long)] {
+    for (size, p) in [(2, &short), (24, &usual), (510, &long)] {
         row(
             &format!("save of a full ring of 64 KiB, names of {size} bytes"),
             &saves(p),
@@ -488,6 +499,10 @@ fn main() {
             &walks(&short, version),
         );
     }
+    row(
+        "walk of a 64 KiB reply, names of 510 bytes, V3",
+        &walks(&long, 3),
+    );
     row("file read, two links", &file_reads());
     row("file regions, two regions", &regions(64, 64));
     row("file regions, one of two", &regions(63, 40));

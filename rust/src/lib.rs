@@ -409,7 +409,8 @@ pub struct FileRecord {
 pub struct Link {
     /// Where the name begins in the name pool.
     pub place: u32,
-    /// The name's length in bytes: even, 0 to 510.
+    /// The name's length in bytes: even, 0 to 510. No code unit of the name is
+    /// 0, 0x2F or 0x5C.
     pub length: u32,
     /// The short name's length; only 0 or not 0 matters.
     pub short: u32,
@@ -492,8 +493,9 @@ impl Volume {
     ///
     /// Refusals, in order: [`Status::FileCorruptError`] for an unsound ring,
     /// wrong positions, a wrong capacity or a ring of another length;
-    /// [`Status::InvalidParameter`] for a name that is odd, empty or above 510
-    /// bytes; [`Status::DiskFull`] if `last` would pass 2^63 - 1.
+    /// [`Status::InvalidParameter`] for a name that is odd, empty, above 510
+    /// bytes or with a code unit 0, 0x2F or 0x5C; [`Status::DiskFull`] if `last`
+    /// would pass 2^63 - 1.
     #[inline]
     pub fn post(&mut self, ring: &mut [u8], change: &Change, name: &[u8], usn: &mut u64) -> Status {
         // SAFETY: each pointer and length comes from a live borrow; those of
@@ -751,7 +753,8 @@ pub struct Record {
 ///
 /// The bytes are lent and stay as they are. `None` stands for
 /// [`Status::InvalidParameter`]: no record of version 2.0 or 3.0 with every
-/// fixed field, length and padding byte right lies there.
+/// fixed field, length and padding byte right, and a name without the code units
+/// 0, 0x2F and 0x5C, lies there.
 #[inline]
 pub fn read_record(bytes: &[u8], at: usize) -> Option<Record> {
     // SAFETY: pointer and length come from one live borrow.

@@ -111,6 +111,15 @@ fn link_table(rng: &mut Rng, pool: usize) -> Vec<Link> {
     links
 }
 
+/// Plants a unit in the name of a link, where that lies in the pool.
+fn plant_in_a_name(rng: &mut Rng, pool: &mut [u8], links: &[Link]) {
+    let link = rng.pick(links);
+    let place = link.place as usize;
+    if let Some(name) = pool.get_mut(place..place + link.length as usize) {
+        common::plant_some(rng, name);
+    }
+}
+
 #[test]
 fn file_reads_agree_with_the_model() {
     const TEST: &str = "file read";
@@ -134,8 +143,11 @@ fn file_reads_agree_with_the_model() {
             2 => rng.between(0, 64),
             _ => rng.between(0, 1500),
         };
-        let pool = rng.bytes(pool_length as usize);
+        let mut pool = common::name(&mut rng, pool_length as usize);
         let links = link_table(&mut rng, pool.len());
+        if !links.is_empty() && rng.percent(10) {
+            plant_in_a_name(&mut rng, &mut pool, &links);
+        }
 
         let mut input = rng.bytes(7);
         let lowest = rng.pick(&[0u16, 1, 2, 2, 2, 3, 4, 5]);

@@ -219,7 +219,7 @@ impl Run {
         while posted < most {
             let change = change(&mut self.rng);
             let length = common::name_length(&mut self.rng, 0);
-            let name = self.rng.bytes(length);
+            let name = common::name(&mut self.rng, length);
             journal
                 .volume
                 .post(&mut journal.ring, &change, &name, &mut 0);
@@ -233,7 +233,7 @@ impl Run {
         let rng = &mut self.rng;
         let volume = &mut damaged.volume;
         let (first, last, capacity) = (volume.first, volume.last, volume.capacity);
-        match rng.below(12) {
+        match rng.below(13) {
             0 => volume.journal = 0,
             1..=2 => volume.state = rng.pick(&[0, 2, 2, 3, 0x101, u32::MAX]),
             3 => volume.first = rng.pick(&[first + 8, first.wrapping_sub(8), first ^ 4, last + 8]),
@@ -243,6 +243,17 @@ impl Run {
                 let length = journal.ring.len();
                 let wrong = rng.pick(&[0, 1, length - 8, length - 1, length + 1, length + 8]);
                 damaged.ring.resize(wrong, 0);
+            }
+            // A unit of the oldest record's name.
+            7 if last > first => {
+                let place = |at: u64| ((first + at) % capacity) as usize;
+                let ring = &mut damaged.ring;
+                let length = u16::from_le_bytes([ring[place(72)], ring[place(73)]]) as u64;
+                let mut name: Vec<u8> = (0..length).map(|at| ring[place(76 + at)]).collect();
+                common::plant_some(rng, &mut name);
+                for (at, byte) in (76..).zip(name) {
+                    ring[place(at)] = byte;
+                }
             }
             _ => {
                 let span = (last - first).max(1);
@@ -282,7 +293,7 @@ impl Run {
         let rng = &mut self.rng;
         let mut changed = image.to_vec();
         let trailer = image.len() - TRAILER;
-        match rng.below(12) {
+        match rng.below(13) {
             0 => {
                 let at = rng.below(image.len() as u64) as usize;
                 changed[at] ^= 1 << rng.below(8);
@@ -321,8 +332,13 @@ impl Run {
                     _ => field[bit / 8] ^= 1 << (bit % 8),
                 }
             }
-            // The records behind one of them: an image again.
+            // A unit of a name.
             10 if trailer > 0 => {
+                let (_, record) = some_record(rng, image);
+                common::plant_some(rng, &mut changed[record.name]);
+            }
+            // The records behind one of them: an image again.
+            11 if trailer > 0 => {
                 let (_, record) = some_record(rng, image);
                 let body = &image[record.next..trailer];
                 changed = common::image(body, record.usn, long(image, trailer + 16));
@@ -342,7 +358,8 @@ impl Run {
     }
 
     /// An image made by the layout alone. Its records may span too much, have a
-    /// wrong name or no Reason, or pass the last position.
+    /// wrong name, by its length or by a unit, or no Reason, or pass the last
+    /// position.
     fn made_image(&mut self) -> Vec<u8> {
         let rng = &mut self.rng;
         let first = common::last_usn(rng) + rng.pick(&[0, 0, 0, 0, 0, 0, 0, 4]);
@@ -351,6 +368,7 @@ impl Run {
             _ => rng.below(3000),
         };
         let (no_reason, bad_names) = (rng.percent(10), 20 * rng.below(2));
+        let odd_names = rng.pick(&[40, u64::MAX]);
         let mut body = Vec::new();
         let mut last = first;
         loop {
@@ -363,7 +381,8 @@ impl Run {
             if last - first > most {
                 return image(&body, first, rng.long());
             }
-            body.extend(lay_out(2, &change, last, &rng.bytes(length)));
+            let name = common::any_name(rng, length, odd_names);
+            body.extend(lay_out(2, &change, last, &name));
         }
     }
 
@@ -535,33 +554,49 @@ fn image_of(first: u64, names: &[usize]) -> Vec<u8> {
     image(&body(first, names), first, 7)
 }
 
-/// An image whose one name holds a trailer: cut behind it, the bytes before it,
-/// their number, the sum and the form are right. They are no whole records.
-fn trailer_in_a_name() -> (Vec<u8>, usize) {
-    let whole = |name: &[u8]| image(&lay_out(2, &CHANGE, 4096 + 120, name), 4096, 7);
-    let mut name = [0x61; 40];
-    let cut = 60 + name.len();
-    let inner = image(&whole(&name)[..cut - TRAILER], 4096, 9);
-    name.copy_from_slice(&inner[60..]);
-    let whole = whole(&name);
+/// An image whose one record holds a trailer, from the Usn at 24 to the attributes
+/// that end at 56: cut behind it, the bytes before it, their number, the sum and
+/// the form are right. They are no whole record.
+fn trailer_in_a_record() -> (Vec<u8>, usize) {
+    let usn = 24 << 32; // the zero word, and 24 bytes before it
+    let mut change = Change {
+        time: 4096,
+        reason: 9,
+        source: 0,
+        attributes: 1,
+        ..CHANGE
+    };
+    let whole = |change: &Change| image(&lay_out(2, change, usn, b"a\0"), usn - 80, 7);
+    let inner = image(&whole(&change)[..24], 4096, 9);
+    let sum = inner[48..52].try_into().expect("four bytes");
+    change.security = u32::from_le_bytes(sum);
+    let whole = whole(&change);
     assert!(whole.starts_with(&inner));
-    (whole, cut)
+    (whole, inner.len())
 }
 
-/// Images to cut and to change: the empty one, those with one name and several,
-/// with names of words that are 1, and with one that holds a trailer.
+/// Images to cut and to change: the empty one, those with one record and several,
+/// with a record whose words are 1, and with one that holds a trailer.
 fn samples(rng: &mut Rng) -> Vec<Vec<u8>> {
-    let ones: Vec<u8> = [1, 0, 0, 0].repeat(30);
+    let ones = Change {
+        file: 0x1_0000_0001,
+        parent: 0x1_0000_0001,
+        time: 0x1_0000_0001,
+        reason: 1,
+        source: 1,
+        security: 1,
+        attributes: 1,
+    };
     let mut several = lay_out(2, &change(rng), 1088, b"a\0");
-    several.extend(lay_out(2, &CHANGE, 1088 + 200, &ones));
-    several.extend(lay_out(2, &CHANGE, 1288 + 592, &rng.bytes(510)));
+    several.extend(lay_out(2, &ones, 1088 + 200, &[0x61; 120]));
+    several.extend(lay_out(2, &CHANGE, 1288 + 592, &common::name(rng, 510)));
     let mut samples = vec![
         image_of(4096, &[]),
         image_of(4096, &[2]),
         image_of(8, &[4; 12]),
     ];
     samples.push(image(&several, 1008, 5));
-    samples.push(trailer_in_a_name().0);
+    samples.push(trailer_in_a_record().0);
     samples
 }
 
@@ -579,8 +614,8 @@ fn longest(run: &mut Run) -> Vec<u8> {
 #[test]
 fn an_image_cut_at_any_byte_is_refused() {
     let mut run = Run::new("cut images");
-    let (in_name, cut) = trailer_in_a_name();
-    assert_eq!(due_of_cut(&in_name[..cut]), FileCorruptError);
+    let (holder, cut) = trailer_in_a_record();
+    assert_eq!(due_of_cut(&holder[..cut]), FileCorruptError);
     let mut images = samples(&mut run.rng);
     images.push(longest(&mut run));
     for image in images {

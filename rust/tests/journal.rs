@@ -179,7 +179,7 @@ impl Run {
     fn post(&mut self, journal: &mut Journal) {
         let change = common::change(&mut self.rng);
         let length = common::name_length(&mut self.rng, 20);
-        let name = self.rng.bytes(length);
+        let name = common::any_name(&mut self.rng, length, 20);
         let name = Lent::holding(&mut self.rng, &name);
         let usn_before = self.rng.long();
         let (mut usn, mut model_usn) = (usn_before, usn_before);
@@ -399,7 +399,7 @@ impl Run {
             0 => None,
             count => Some(rng.below(count as u64) as usize),
         };
-        match rng.below(15) {
+        match rng.below(16) {
             // One byte in the kept part, or one outside of it.
             0 if last > first => {
                 let position = rng.between(first, last - 1);
@@ -465,6 +465,17 @@ impl Run {
                 }
                 journal.put(begin + 72, name as u8);
                 journal.put(begin + 73, (name >> 8) as u8);
+            }
+            // A unit of a kept name.
+            15 if some.is_some() && journal.lent > 0 => {
+                let kept = journal.kept[some.unwrap_or(0)];
+                let begin = kept.end - record_length(3, kept.name) as u64 + 76;
+                let place = |at: usize| ((begin + at as u64) % journal.lent as u64) as usize;
+                let mut name: Vec<u8> = (0..kept.name).map(|at| journal.ring[place(at)]).collect();
+                common::plant_some(rng, &mut name);
+                for (position, byte) in (begin..).zip(name) {
+                    journal.put(position, byte);
+                }
             }
             // The first position. The end of a kept record leaves it sound.
             7..=8 => {

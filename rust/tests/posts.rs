@@ -103,7 +103,7 @@ impl Run {
     /// Three posts to a journal that begins at a position.
     fn three(&mut self, ring: &mut Ring, start: u64, length: usize) {
         ring.fill(&mut self.rng);
-        let name = self.rng.bytes(length);
+        let name = common::name(&mut self.rng, length);
         let record = record_length(3, length) as u64;
         let mut volume = created(ring.capacity, start);
         for number in 1..=3 {
@@ -243,7 +243,7 @@ fn disk_full_is_for_the_limit_alone() {
         for length in name_lengths() {
             ring.fill(&mut rng);
             let mut model_ring = ring.library.clone();
-            let name = rng.bytes(length);
+            let name = common::name(&mut rng, length);
             for step in 1..=160 {
                 let last = NEGATIVE - 8 * step;
                 match post_to_both(&mut rng, &mut ring, &mut model_ring, last, &name) {

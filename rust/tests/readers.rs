@@ -9,7 +9,7 @@
 
 mod common;
 
-use common::{check, expected, lay_out, record_length, selects};
+use common::{check, expected, holds_excluded, lay_out, record_length, selects};
 use common::{Counts, Hex, ReadInput, Rng, GUARD, NEGATIVE, TRAILER};
 use lanhduxe::{Change, Status, Volume};
 
@@ -78,7 +78,10 @@ impl History {
     /// Notes a post; true if the record counts as posted.
     fn post(&mut self, change: &Change, name: &[u8]) -> bool {
         let length = record_length(3, name.len()) as u64;
-        let accepted = name.len().is_multiple_of(2) && !name.is_empty() && name.len() <= 510;
+        let accepted = name.len().is_multiple_of(2)
+            && !name.is_empty()
+            && name.len() <= 510
+            && !holds_excluded(name);
         if !self.live || change.reason == 0 || !accepted || self.end + length >= NEGATIVE {
             return false;
         }
@@ -434,13 +437,20 @@ impl Run {
             Names::Short => rng.pick(&[2, 2, 2, 4, 6, 12]),
             Names::Long => rng.pick(&[506, 508, 510, 510]),
         };
-        if !good {
-            match rng.below(2) {
-                0 => change.reason = 0,
-                _ => length = rng.pick(&[0, 1, 511, 512]),
-            }
+        let fault = match good {
+            true => None,
+            false => Some(rng.below(3)),
+        };
+        match fault {
+            Some(0) => change.reason = 0,
+            Some(1) => length = rng.pick(&[0, 1, 511, 512]),
+            Some(_) => length = length.clamp(2, 510),
+            None => {}
         }
-        let name = rng.bytes(length);
+        let mut name = common::any_name(rng, length, 30);
+        if fault == Some(2) {
+            common::plant_excluded(rng, &mut name);
+        }
         let usn_before = rng.long();
         let mut usn = usn_before;
         let before = list.volume;

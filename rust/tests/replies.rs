@@ -16,7 +16,7 @@ fn name(rng: &mut Rng) -> Vec<u8> {
         2 => 2 * rng.between(0, 255) as usize,
         _ => 2 * rng.between(0, 12) as usize,
     };
-    rng.bytes(length)
+    common::name(rng, length)
 }
 
 /// A good reply, and where each of its records begins.
@@ -50,7 +50,7 @@ fn damage_record(rng: &mut Rng, bytes: &mut [u8], at: usize) {
     };
     let length = u32::from_le_bytes([rest[0], rest[1], rest[2], rest[3]]);
     let fixed = if three { 76 } else { 60 };
-    match rng.below(14) {
+    match rng.below(15) {
         // The length: one step up or down, one off, none, huge.
         0 => {
             let lengths = [
@@ -122,8 +122,15 @@ fn damage_record(rng: &mut Rng, bytes: &mut [u8], at: usize) {
             put(rest, fixed + name, &vec![0; zeroes]);
             put(rest, fixed - 4, &(name as u16).to_le_bytes());
         }
+        // A unit of the name.
+        12 => {
+            let name = u16::from_le_bytes([rest[fixed - 4], rest[fixed - 3]]) as usize;
+            if let Some(name) = rest.get_mut(fixed..fixed + name) {
+                common::plant_some(rng, name);
+            }
+        }
         // A single bit anywhere in the fixed fields, or anywhere at all.
-        12 => rest[rng.below(60) as usize] ^= 1 << rng.below(8),
+        13 => rest[rng.below(60) as usize] ^= 1 << rng.below(8),
         _ => {
             let place = rng.below(rest.len() as u64) as usize;
             rest[place] ^= 1 << rng.below(8);
@@ -350,7 +357,7 @@ fn the_lister_agrees_with_the_model() {
                     _ => rest - 60,
                 };
                 let change = common::change(&mut rng);
-                let name = rng.bytes(length);
+                let name = common::any_name(&mut rng, length, 1000);
                 bytes.extend(lay_out(2, &change, rng.draw() >> 1, &name));
             }
             assert_eq!(bytes.len(), goal);

@@ -107,7 +107,7 @@ enum Call {
     Create(u64),
     Delete(u64),
     Finish,
-    Post(Change, usize),
+    Post(Change, &'static [u8]),
     Load(&'static [u8], u64),
 }
 
@@ -131,7 +131,6 @@ impl Call {
             Call::Delete(id) => model::delete(&mut after, *id),
             Call::Finish => model::finish(&mut after),
             Call::Post(change, name) => {
-                let name = &NAME[..*name];
                 model::post(&mut after, &mut ring, &model_change(change), name, &mut 0)
             }
             Call::Load(image, id) => model::load_journal(&mut after, &mut ring, image, *id),
@@ -149,7 +148,8 @@ impl Call {
             Call::Delete(id) => usn_delete(volume, *id),
             Call::Finish => usn_finish(volume),
             Call::Post(change, name) => {
-                usn_post(volume, ring, RING, *change, NAME.as_ptr(), *name, usn)
+                let (name, size) = (name.as_ptr(), name.len());
+                usn_post(volume, ring, RING, *change, name, size, usn)
             }
             Call::Load(image, id) => {
                 usn_load_journal(volume, ring, RING, image.as_ptr(), image.len(), *id)
@@ -159,7 +159,10 @@ impl Call {
 }
 
 /// A name for posts, of which the first bytes are taken.
-const NAME: [u8; 512] = [0x61; 512];
+const NAME: &[u8; 512] = &[0x61; 512];
+
+/// Names for posts that have a right length and an excluded unit.
+const EXCLUDED: [&[u8]; 3] = [b"\0\0", b"a\0/\0b\0", b"abcdefghijklmnopqrst\\\0"];
 
 /// A call on a record that is cut in two, which parts are writable, and what the
 /// model makes of it.
@@ -348,14 +351,17 @@ fn finish_stores_the_state_or_nothing() {
 fn post_stores_first_and_last_or_nothing() {
     let expected = [Success, InvalidParameter, DiskFull, FileCorruptError];
     try_calls("stores of post", &expected, |rng| {
-        let name = rng.pick(&[0, 1, 2, 2, 2, 4, 100, 510, 511, 512]);
+        let name = match rng.below(8) {
+            0 => rng.pick(&EXCLUDED),
+            _ => &NAME[..rng.pick(&[0, 1, 2, 2, 2, 4, 100, 510, 511, 512])],
+        };
         Call::Post(common::change(rng), name)
     });
 }
 
 /// Images to load: one that has room, an empty one, one that spans too much, one
-/// of another form, and two that are none. They are never given back.
-fn images() -> [&'static [u8]; 6] {
+/// of another form, and three that are none. They are never given back.
+fn images() -> [&'static [u8]; 7] {
     let change = Change {
         reason: 1,
         ..Change::default()
@@ -372,7 +378,9 @@ fn images() -> [&'static [u8]; 6] {
     changed[8] ^= 1;
     let short = right[..31].to_vec();
     let long = image(&body(13), 0, 5);
-    [right, image(&[], 1 << 40, 5), long, other, changed, short].map(|image| &*image.leak())
+    let excluded = image(&lay_out(2, &change, 80, b"a\0\\\0"), 0, 5);
+    let empty = image(&[], 1 << 40, 5);
+    [right, empty, long, other, changed, short, excluded].map(|image| &*image.leak())
 }
 
 #[test]

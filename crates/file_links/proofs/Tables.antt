@@ -2,7 +2,7 @@
 -- Assumes nothing.
 use mathlib.Core.Path.{_≡_, sym, ap, _∙_}
 use mathlib.Core.Bool.{Bool, true, false, not, _&&_}
-use mathlib.Core.List.{List, [], _++_, append-nil}
+use mathlib.Core.List.{List}
 use Prim.Native.Nat.{ℕ, _+_, _-_, _≤_, _<_}
 use native.Mathlib.Omega.{arith}
 use native.Mathlib.Numerals.{add-one}
@@ -11,7 +11,7 @@ use lib.ListN.{length, take, drop, getD, drop-of-length-le}
 use lib.Seq.{drop-cons}
 use borrow.Author.Tests.{eqb-true, le-leb, lt-leb, leb-true, not-true, not-false}
 use Rattle.le.proofs.Runs.{and-left, and-right}
-use Rattle.usn_record.specs.Layout.{goodName}
+use Rattle.names.specs.Names.{goodName}
 use Rattle.file_links.specs.declared.Link.{Link}
 use Rattle.file_links.specs.Links.{linksOf, nameAt, goodLink, goodLinks, goodTable}
 
@@ -22,15 +22,11 @@ pub link-past : (pool : List ℕ) (l : Link) → length pool < l .place + l .len
 unfolding goodLink
 link-past pool l h = rw (lt-leb _ _ h)
 
--- a name inside the pool, judged as two parts of which the second is empty
-pub link-inside : (pool : List ℕ) (l : Link) (k : ℕ) (empty : List ℕ) (r : Bool) → l .place + l .length ≤ length pool → k ≡ l .length → empty ≡ []
-    → r ≡ goodName (take k (drop (l .place) pool) ++ empty) → r ≡ goodLink pool l
+-- a name inside the pool
+pub link-inside : (pool : List ℕ) (l : Link) (k : ℕ) (r : Bool) → l .place + l .length ≤ length pool → k ≡ l .length
+    → r ≡ goodName (take k (drop (l .place) pool)) → r ≡ goodLink pool l
 unfolding goodLink
-link-inside pool l k empty r h e z g = g ∙ rw (e, z, append-nil, le-leb _ _ h)
-
--- an empty part
-pub part-empty : (t : ℕ) (l : List ℕ) → take (t - t) l ≡ []
-part-empty t l = let z : t - t ≡ 0 = omega arith in rw z
+link-inside pool l k r h e g = g ∙ rw (e, le-leb _ _ h)
 
 -- what a good link tells
 pub link-fits : (pool : List ℕ) (l : Link) → goodLink pool l ≡ true → l .place + l .length ≤ length pool

@@ -4,7 +4,7 @@ use mathlib.Core.List.{List, [], _∷_}
 use Prim.Native.Nat.{ℕ, _+_}
 use lib.Dec.{leb, eqb}
 use lib.ListN.{length, take, drop}
-use Rattle.usn_record.specs.Layout.{goodName}
+use Rattle.names.specs.Names.{goodName}
 use Rattle.file_links.specs.declared.Link.{Link}
 
 -- the name of a link

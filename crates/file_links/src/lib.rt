@@ -5,7 +5,7 @@ ghost use Prim.Native.Nat.{_≤_};
 ghost use lib.ListN.{length};
 ghost use Rattle.file_links.specs.Links.{noLink, linksOf, goodLink, goodTable, chosenLink};
 ghost use Rattle.file_links.specs.Steps.{has, firstNonzero};
-use usn_record::good_name;
+use names::good_name;
 
 // A link: the place and length of its name in a pool, and the length of its short name.
 #[repr(C)]
@@ -45,7 +45,7 @@ pub fn good_link(pool: &[u8], l: Link) -> bool
     if pool.len() < to {
         return false;
     }
-    good_name(&pool[from..to], &pool[to..to])
+    good_name(&pool[from..to])
 }
 
 // Whether the whole table of links is right.

@@ -1,7 +1,7 @@
 // FSCTL_READ_FILE_USN_DATA: a USN record of the file as it is now.
 ghost use mathlib.Core.Path.{_≡_};
 ghost use mathlib.Core.Bool.{true};
-ghost use Prim.Native.Nat.{ℕ, _<_, _^_};
+ghost use Prim.Native.Nat.{ℕ, _<_};
 ghost use lib.ListN.{length};
 ghost use Rattle.status.specs.Reply.{Replied};
 ghost use Rattle.usn_record.specs.Version.{chosen};
@@ -12,7 +12,7 @@ use file_links::choose_link;
 use file_links::good_table;
 use file_links::no_link;
 use file_record::FileRecord;
-use record_writer::write_record;
+use record_writer::put_split;
 use status::Answer;
 use status::Status;
 use usn_record::Choice;
@@ -63,14 +63,14 @@ fn fields_of(f: FileRecord, parent: u64) -> Fields
     }
 }
 
-// Writes the record of a file, with the name of a good link, in version v.
+// Writes the record of a file, with the name of a good link, in version v. The table was judged, so the name is not judged again.
 fn write_file(v: Version, fields: Fields, pool: &[u8], link: Link, output: &mut [u8]) -> Answer
-    requires { ⌜ (goodLink (now pool) link ≡ true) × (fields .usn < 2 ^ 63) ⌝ }
+    requires { ⌜ goodLink (now pool) link ≡ true ⌝ }
     ensures { λ r. ⌜ ((f : FileRecord) (p : ℕ) → fields ≡ fileFields f p → Replied (fileAnswer v f p (nameAt (now (pool .entry)) link) (length (now (output .entry)))) r (now (output .entry)) (now (output .exit))) ⌝ }
 {
     let from = link.place as usize;
     let to = from + link.length as usize;
-    write_record(output, v, fields, &pool[from..to])
+    put_split(output, v, fields, &pool[from..to], &pool[to..to])
 }
 
 // Reads a file's USN data, once its table of links is judged and the link whose name stands for it is chosen.

@@ -13,7 +13,8 @@ use Rattle.le.specs.Bytes.{begins}
 use Rattle.status.specs.declared.Status.the-variants.{Success, InvalidParameter, BufferTooSmall, JournalEntryDeleted}
 use Rattle.status.specs.Reply.{Reply, refuse, give, answer}
 use Rattle.volume.specs.State.{goodCapacity, goodPosition}
-use Rattle.usn_record.specs.Layout.{layout, goodName, Record}
+use Rattle.names.specs.Names.{goodUnit, goodUnits, goodName}
+use Rattle.usn_record.specs.Layout.{layout, Record}
 use Rattle.record_reader.specs.Read.{accepted, parseAs, parse}
 use Rattle.records.specs.Records.{recordsIn, records, joined}
 use Rattle.journal.specs.Kept.{keeps, chained}
@@ -97,7 +98,7 @@ sim : Sim after told
 sim = sim-run (replicate 13 (post posting)) (next disk (create 7)) (historyAfter 0) (opening-sim disk (create 7) (historyAfter 0) tt created-right refl) (all-typed 13) (none-created 13 (next disk (create 7)))
 
 told-right : (told .live ≡ true) × (told .first ≡ 80) × (told .end ≡ 1040)
-unfolding opened isPosted shed added notePost postedName goodName
+unfolding opened isPosted shed added notePost postedName goodName goodUnits goodUnit
 told-right = (refl, refl, refl)
 
 live : Live after told
@@ -154,12 +155,12 @@ examples =
     ∷ []
 
 answered : (start room : ℕ) → argumentCheck 7 (asks start room .input) room ≡ none → replyTo after (asks start room) ≡ readAnswer 80 (told .left) (asks start room .input) room
-unfolding opened isPosted shed added notePost postedName goodName
+unfolding opened isPosted shed added notePost postedName goodName goodUnits goodUnit
 answered start room ok = reply-live after told sim (told-right .0) (asks start room) ok
 
 -- each read gives its reply
 pub reads-right : map (λ (e : Example). replyTo after (asks (e .start) (e .room))) examples ≡ map (λ (e : Example). e .reply) examples
-unfolding opened isPosted shed added notePost postedName goodName le unle numberAt argumentCheck isDeleted origin deletedCheck recordsAfter wanted fits pageOf pageReply readAnswer joined layout encode
+unfolding opened isPosted shed added notePost postedName goodName goodUnits goodUnit le unle numberAt argumentCheck isDeleted origin deletedCheck recordsAfter wanted fits pageOf pageReply readAnswer joined layout encode
 reads-right =
     ap₂ _∷_ (answered 40 136 refl)
     (ap₂ _∷_ (answered 100 136 refl)
@@ -188,19 +189,19 @@ reader n m =
 
 -- after two posts one read brings it to the end
 pub reaches-end : follow (journalAfter 2) (fresh 80 all) (mine (asks 80 600) ∷ []) .position ≡ 160
-unfolding opened isPosted shed added notePost postedName goodName le unle numberAt argumentCheck wellFormed wanted above
+unfolding opened isPosted shed added notePost postedName goodName goodUnits goodUnit le unle numberAt argumentCheck wellFormed wanted above
 reaches-end =
     reader 2 (List·Memᴰ·head refl) .progress (λ d. List·Memᴰ·not-nil (d .1)) (mine (asks 80 600) ∷ []) (tt, tt) (λ q. clash cc, tt) ((refl, (refl, refl)), tt) refl (omega arith)
 
 -- after fourteen the record behind it has been dropped, and it is told so
 pub told-deleted : statusOf (journalAfter 14) (read (asks 80 600)) ≡ JournalEntryDeleted
-unfolding opened isPosted shed added notePost postedName goodName le unle numberAt argumentCheck wellFormed
+unfolding opened isPosted shed added notePost postedName goodName goodUnits goodUnit le unle numberAt argumentCheck wellFormed
 told-deleted = reader 14 (List·Memᴰ·head refl) .deleted (asks 80 600) (refl, (refl, refl)) refl .1 (recordOf change name 160, List·Memᴰ·tail (List·Memᴰ·head refl), omega arith)
 
 -- ---- a journal that is loaded: the image of one record, from position 80 to 160, under the new id 8
 
 loaded-right : statusOf disk (load oneBytes 8) ≡ Success
-unfolding loadCheck formCheck fitCheck goodCapacity goodPosition readImage goodTrailer wordSum wordsIn decode unle numberAt total records recordsIn parse parseAs accepted goodName layout encode le begins allOf lastFrom fitsRing chained keeps
+unfolding loadCheck formCheck fitCheck goodCapacity goodPosition readImage goodTrailer wordSum wordsIn decode unle numberAt total records recordsIn parse parseAs accepted goodName goodUnits goodUnit layout encode le begins allOf lastFrom fitsRing chained keeps
 loaded-right = refl
 
 loadedHistory : History
@@ -215,11 +216,11 @@ abbrev returns : Read
 returns = record { input = le 8 80 ++ (le 4 0xFFFFFFFF ++ (le 4 0 ++ (le 8 0 ++ (le 8 0 ++ le 8 8)))); room = 600 }
 
 loaded-reader : ReaderPromise (runs (next disk (load oneBytes 8)) []) (notes loadedHistory []) (fresh 80 all)
-unfolding loadedHistory notePost isPosted opened shed added postedName goodName
+unfolding loadedHistory notePost isPosted opened shed added postedName goodName goodUnits goodUnit
 loaded-reader =
     demand3 disk (load oneBytes 8) loadedHistory loaded-right loaded-opens [] [] 80 all one-bytes tt tt (inl refl) (λ z. omega arith) tt
 
 pub loaded-reaches-end : follow (next disk (load oneBytes 8)) (fresh 80 all) (mine returns ∷ []) .position ≡ 160
-unfolding loadedHistory opened isPosted shed added notePost postedName goodName le unle numberAt argumentCheck wellFormed wanted above
+unfolding loadedHistory opened isPosted shed added notePost postedName goodName goodUnits goodUnit le unle numberAt argumentCheck wellFormed wanted above
 loaded-reaches-end =
     loaded-reader .progress (λ d. List·Memᴰ·not-nil (d .1)) (mine returns ∷ []) (tt, tt) (λ q. clash cc, tt) ((refl, (refl, refl)), tt) refl (omega arith)

@@ -19,8 +19,9 @@ use Rattle.volume.specs.declared.Volume.{Volume}
 use Rattle.volume.specs.State.{supported, isActive, activeCheck, goodCapacity, goodPosition}
 use Rattle.volume.specs.Calls.{performed, inState, atPositions, deleteCheck}
 use Rattle.volume.proofs.Marks.{capacity-facts, position-facts}
+use Rattle.names.specs.Names.{goodName}
 use Rattle.usn_record.specs.declared.Version.the-variants.{V3}
-use Rattle.usn_record.specs.Layout.{recordLength, shown, goodName, Record, bytesOf}
+use Rattle.usn_record.specs.Layout.{recordLength, shown, Record, bytesOf}
 use Rattle.usn_record.proofs.Record.{record-short}
 use Rattle.record_reader.proofs.Judge.{shown-same, shown-lt}
 use Rattle.records.specs.Records.{joined}

@@ -16,8 +16,9 @@ use Rattle.status.specs.declared.Status.the-variants.{Success, InvalidParameter
 use Rattle.status.specs.Reply.{give}
 use Rattle.volume.specs.declared.Volume.{Volume}
 use Rattle.volume.specs.State.{goodCapacity, goodPosition}
+use Rattle.names.specs.Names.{goodUnit, goodUnits, goodName}
 use Rattle.usn_record.specs.declared.Version.the-variants.{V3}
-use Rattle.usn_record.specs.Layout.{layout, goodName}
+use Rattle.usn_record.specs.Layout.{layout}
 use Rattle.record_reader.specs.Read.{accepted, parseAs, parse}
 use Rattle.records.specs.Records.{recordsIn, records, joined}
 use Rattle.ring.specs.Ring.{rotated, placed}
@@ -63,7 +64,7 @@ ring = replicate 80 0 ++ (recordBytes ++ replicate 864 0)
 
 -- 96 bytes of room are enough
 pub one-saved : saveReply saved ring 96 ≡ give Success oneBytes
-unfolding ring saveAs saveCheck imageReply sound goodMarks goodCapacity goodPosition kept keptBytes rotated records recordsIn parse parseAs accepted goodName layout encode decode le unle total begins chained keeps imageOf sealed sumOf wordSum wordsIn joined
+unfolding ring saveAs saveCheck imageReply sound goodMarks goodCapacity goodPosition kept keptBytes rotated records recordsIn parse parseAs accepted goodName goodUnits goodUnit layout encode decode le unle total begins chained keeps imageOf sealed sumOf wordSum wordsIn joined
 one-saved = refl
 
 typed : TypedJournal saved ring
@@ -103,7 +104,7 @@ pub loadedRing : List ℕ
 loadedRing = replicate 80 255 ++ (recordBytes ++ replicate 864 255)
 
 pub one-loaded : (loadOutcome idle other oneBytes 8 ≡ record { status = Success; volume = loadedVolume }) × (loadRing idle other oneBytes 8 ≡ loadedRing)
-unfolding other loadedRing loadCheck formCheck fitCheck goodCapacity goodPosition readImage goodTrailer wordSum wordsIn decode unle numberAt total records recordsIn parse parseAs accepted goodName layout encode le begins allOf lastFrom fitsRing chained keeps verdict postCheck postedName postedVolume postedRing oldest placed rotated sound goodMarks kept keptBytes
+unfolding other loadedRing loadCheck formCheck fitCheck goodCapacity goodPosition readImage goodTrailer wordSum wordsIn decode unle numberAt total records recordsIn parse parseAs accepted goodName goodUnits goodUnit layout encode le begins allOf lastFrom fitsRing chained keeps verdict postCheck postedName postedVolume postedRing oldest placed rotated sound goodMarks kept keptBytes
 one-loaded = (refl, refl)
 
 -- ---- and its history goes on there: the journal is one created at position 80, with one post
@@ -132,7 +133,7 @@ abbrev pub loadedHistory : History
 loadedHistory = notePosts (opened idle 1024 80 8) (map postingOf (oneImage .records))
 
 calls-leave : record { volume = saved; ring = ring } ≡ runs (next blank (create 7)) calls
-unfolding ring verdict postCheck postedName postedVolume postedRing oldest placed rotated sound goodMarks goodCapacity goodPosition kept keptBytes records recordsIn goodName layout encode le chained
+unfolding ring verdict postCheck postedName postedVolume postedRing oldest placed rotated sound goodMarks goodCapacity goodPosition kept keptBytes records recordsIn goodName goodUnits goodUnit layout encode le chained
 calls-leave = refl
 
 loaded-opens : opening idle 1024 (load oneBytes 8) ≡ some loadedHistory
@@ -144,7 +145,7 @@ pub one-posted : posted loadedHistory ≡ record {
   fields = record { file = 5; parent = 6; usn = 160; time = 0; reason = 0x100; source = 0; security = 0; attributes = 0x20 };
   name = 0x61 ∷ 0 ∷ [];
 } ∷ []
-unfolding opened isPosted shed added notePost postedName goodName
+unfolding opened isPosted shed added notePost postedName goodName goodUnits goodUnit
 one-posted = refl
 
 -- a reader of all records that had come to position 80
@@ -152,7 +153,7 @@ abbrev pub reader : Reader
 reader = fresh 80 (record { mask = 0xFFFFFFFF; close = 0 })
 
 pub one-across : GoesOn (notes history calls) reader (next (record { volume = idle; ring = other }) (load oneBytes 8)) loadedHistory
-unfolding other goodCapacity goodPosition opened isPosted added notePost postedName goodName
+unfolding other goodCapacity goodPosition opened isPosted added notePost postedName goodName goodUnits goodUnit
 one-across =
     across blank (create 7) history refl refl calls [] 80 (reader .filter) tt
     (record { file = lit< tt; parent = lit< tt; time = lit< tt; reason = lit< tt; source = lit< tt; security = lit< tt; attributes = lit< tt }, tt)
@@ -218,7 +219,7 @@ pub checks-right : map (λ (e : Check). record {
   id = e .id;
   says = loadCheck (volumeIn (e .support) (e .state)) (e .buffer) (e .image) (e .id);
 }) checks ≡ checks
-unfolding loadCheck formCheck fitCheck goodCapacity goodPosition readImage goodTrailer wordSum wordsIn decode unle numberAt total records recordsIn parse parseAs accepted goodName layout encode le begins allOf lastFrom fitsRing chained keeps
+unfolding loadCheck formCheck fitCheck goodCapacity goodPosition readImage goodTrailer wordSum wordsIn decode unle numberAt total records recordsIn parse parseAs accepted goodName goodUnits goodUnit layout encode le begins allOf lastFrom fitsRing chained keeps
 checks-right = refl
 
 -- records that span 1,032 bytes, under a new id and under 0: the id is checked first

@@ -1,7 +1,7 @@
 //! The three controls over a file record: USN data, regions, reparse point.
 
 use crate::bytes::{put_u16, put_u32, put_u64, u16_at, u32_at, u64_at};
-use crate::record::{write, Change, Version, LONGEST_NAME, MAX_USN};
+use crate::record::{has_good_units, write, Change, Version, LONGEST_NAME, MAX_USN};
 use crate::{answer, status, Volume};
 
 /// A file record.
@@ -41,7 +41,8 @@ impl Link {
         if length > LONGEST_NAME || !length.is_multiple_of(2) {
             return None;
         }
-        pool.get(self.place as usize..)?.get(..length)
+        let name = pool.get(self.place as usize..)?.get(..length)?;
+        has_good_units(name).then_some(name)
     }
 }
 

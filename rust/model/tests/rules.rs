@@ -1013,7 +1013,7 @@ fn image_sizes() {
 
 #[test]
 fn image_cuts() {
-    let several = image_of(88, 5, &[b"a\0", &[1; 510], b"a\0b\0", &[0; 64]]);
+    let several = image_of(88, 5, &[b"a\0", &[1; 510], b"a\0b\0", &[1, 0].repeat(32)]);
     for image in [&EMPTY_IMAGE[..], &ONE_IMAGE, &several] {
         assert_eq!(load(image), SUCCESS);
         for cut in 0..image.len() {
@@ -1027,19 +1027,19 @@ fn image_cuts() {
             assert_eq!(status, expected, "{cut}");
         }
     }
-    // A name that holds a trailer: cut behind it, the body's length, the sum and
-    // the form number are right. The body is not whole records, though.
-    let mut name = [0x61; 40];
-    let trailer = name.len() - 32;
-    let at = 60 + trailer;
-    name[trailer..trailer + 4].fill(0);
-    name[trailer + 4..trailer + 8].copy_from_slice(&(at as u32).to_le_bytes());
-    name[trailer + 8..trailer + 16].copy_from_slice(&4096u64.to_le_bytes());
-    name[trailer + 16..trailer + 24].copy_from_slice(&7u64.to_le_bytes());
-    name[trailer + 28..].copy_from_slice(&1u32.to_le_bytes());
-    let cut = resealed(image_of(4096, 8, &[&name])[..at + 32].to_vec());
-    name.copy_from_slice(&cut[60..]);
-    let whole = image_of(4096, 8, &[&name]);
+    // A record whose fields hold a trailer, from the Usn to the attributes: cut
+    // behind it, the body's length, the sum and the form number are right. The
+    // body is not a whole record, though.
+    let usn = 24 << 32; // a zero word, and a body of 24 bytes
+    let mut c = Change {
+        time: 4096,
+        attributes: 1,
+        ..change(7)
+    };
+    let whole = |c: &Change| sealed(&plain(2, c, usn, b"a\0"), usn - 80, 8, 1);
+    let cut = resealed(whole(&c)[..56].to_vec());
+    c.security = u32::from_le_bytes(cut[48..52].try_into().unwrap());
+    let whole = whole(&c);
     assert_eq!((load(&whole), whole.starts_with(&cut)), (SUCCESS, true));
     assert_eq!(load(&cut), FILE_CORRUPT_ERROR);
 }
@@ -1339,7 +1339,7 @@ fn random_images() {
             };
             let size = if random.below(4) == 0 { 255 } else { 12 };
             let length = 2 + 2 * random.below(size) as usize;
-            let name: Vec<u8> = (0..length).map(|_| random.below(256) as u8).collect();
+            let name = random.name(length);
             let mut usn = 0;
             let status = post(&mut v, &mut ring, &c, &name, &mut usn);
             assert_eq!(status, SUCCESS);
@@ -1521,6 +1521,261 @@ fn listing() {
     assert_eq!(walk_reply(&long), Ok((0, long.len() / 592)));
 }
 
+/// Names with a unit that no name may hold: alone, first and last.
+const BAD_NAMES: [&[u8]; 10] = [
+    &[0x00, 0x00],
+    &[0x2F, 0x00],
+    &[0x5C, 0x00],
+    &[0x00, 0x00, 0x61, 0x00],
+    &[0x2F, 0x00, 0x61, 0x00],
+    &[0x5C, 0x00, 0x61, 0x00],
+    &[0x61, 0x00, 0x00, 0x00],
+    &[0x61, 0x00, 0x2F, 0x00],
+    &[0x61, 0x00, 0x5C, 0x00],
+    &[0x5C, 0x00, 0x2F, 0x00],
+];
+
+/// Names whose units only look like such: a byte of them is the same, the number
+/// is next to it, or the two bytes stand at an odd place.
+const GOOD_NAMES: [&[u8]; 18] = [
+    &[0x01, 0x00],
+    &[0x00, 0x01],
+    &[0x00, 0x80],
+    &[0xFF, 0xFF],
+    &[0x2E, 0x00],
+    &[0x30, 0x00],
+    &[0x00, 0x2F],
+    &[0x2F, 0x2F],
+    &[0x5B, 0x00],
+    &[0x5D, 0x00],
+    &[0x00, 0x5C],
+    &[0x5C, 0x01],
+    &[0x5C, 0xFF],
+    &[0x5C, 0x2F],
+    &[0x41, 0x00, 0x00, 0x42],
+    &[0x41, 0x2F, 0x00, 0x42],
+    &[0x41, 0x5C, 0x00, 0x42],
+    &[0x61, 0x00, 0x5D, 0x00],
+];
+
+#[test]
+fn names_posted() {
+    let try_post = |v: &Volume, ring: &[u8], reason, name: &[u8]| {
+        let (mut after, mut written, mut usn) = (*v, ring.to_vec(), 1);
+        let status = post(&mut after, &mut written, &change(reason), name, &mut usn);
+        let same = after == *v && written == ring && usn == 1;
+        (status, same)
+    };
+    let (v, ring) = thirteen();
+    for name in GOOD_NAMES {
+        assert_eq!(try_post(&v, &ring, 1, name), (SUCCESS, false), "{name:?}");
+    }
+    let full = Volume {
+        first: (1 << 63) - 8,
+        last: (1 << 63) - 8,
+        ..v
+    };
+    let refused = (INVALID_PARAMETER, true);
+    for name in BAD_NAMES {
+        assert_eq!(try_post(&v, &ring, 1, name), refused, "{name:?}");
+        // Behind what skips a post and the ring's soundness, ahead of the limit.
+        assert_eq!(try_post(&v, &ring, 0, name), (SUCCESS, true));
+        let deleting = Volume { state: 2, ..v };
+        assert_eq!(try_post(&deleting, &ring, 1, name), (SUCCESS, true));
+        assert_eq!(try_post(&v, &[], 1, name), (FILE_CORRUPT_ERROR, true));
+        assert_eq!(try_post(&full, &ring, 1, name), refused);
+    }
+    let mut long = [0x61; 510];
+    assert_eq!(try_post(&v, &ring, 1, &long), (SUCCESS, false));
+    long[508..].copy_from_slice(&[0x5C, 0]);
+    assert_eq!(try_post(&v, &ring, 1, &long), refused);
+}
+
+/// The status of every call that asks whether the ring is sound. It has to be the
+/// same for all, and a refusal changes nothing.
+fn soundness(v: &Volume, ring: &[u8]) -> u32 {
+    let (mut after, mut written, mut usn) = (*v, ring.to_vec(), 1);
+    let status = post(&mut after, &mut written, &change(1), b"a\0", &mut usn);
+    let asked = ask(v.last, 1, 0, v.id, None);
+    assert_eq!(read(v, ring, &asked, 8).0, status);
+    assert_eq!(save(v, ring, 2000).0, status);
+    if status != SUCCESS {
+        assert_eq!((after, &written[..], usn), (*v, ring, 1));
+        // Without a Reason there is no change to post, and nobody asks.
+        let skipped = post(&mut after, &mut written, &change(0), b"a\0", &mut usn);
+        assert_eq!((skipped, after, usn), (SUCCESS, *v, 1));
+    }
+    status
+}
+
+#[test]
+fn names_kept() {
+    let [_, (v, ring, _)] = literal_journals();
+    for (names, status) in [
+        (&GOOD_NAMES[..], SUCCESS),
+        (&BAD_NAMES[..], FILE_CORRUPT_ERROR),
+    ] {
+        for name in names.iter().filter(|name| name.len() == 4) {
+            let mut ring = ring.clone();
+            ring[76..80].copy_from_slice(name);
+            assert_eq!(soundness(&v, &ring), status, "{name:?}");
+        }
+    }
+}
+
+/// A kept record of a name of 12 bytes, whose last 8 are at the ring's front.
+#[test]
+fn names_kept_over_the_end() {
+    let mut v = Volume {
+        last: 4096 - 80,
+        ..volume(4096)
+    };
+    let mut ring = vec![0xAA; 4096];
+    let letters = b"a\0b\0c\0d\0e\0f\0";
+    assert_eq!(create(&mut v, 3), SUCCESS);
+    let posted = post(&mut v, &mut ring, &change(1), letters, &mut 0);
+    assert_eq!((posted, v.last), (SUCCESS, 4096 + 8));
+    assert_eq!((&ring[4092..], &ring[..8]), (&letters[..4], &letters[4..]));
+    for place in [4092, 4094, 0, 2, 4, 6] {
+        for (unit, status) in [
+            ([0x00, 0x00], FILE_CORRUPT_ERROR),
+            ([0x2F, 0x00], FILE_CORRUPT_ERROR),
+            ([0x5C, 0x00], FILE_CORRUPT_ERROR),
+            ([0x00, 0x5C], SUCCESS),
+            ([0x00, 0x2F], SUCCESS),
+            ([0x5D, 0x00], SUCCESS),
+            ([0x01, 0x00], SUCCESS),
+        ] {
+            let mut ring = ring.clone();
+            ring[place..place + 2].copy_from_slice(&unit);
+            assert_eq!(soundness(&v, &ring), status, "{unit:?} at {place}");
+        }
+    }
+    // The last byte before the end and the first behind it are of two units.
+    for byte in [0x00, 0x2F, 0x5C] {
+        let mut ring = ring.clone();
+        ring[4094..].copy_from_slice(&[0x41, byte]);
+        ring[..2].copy_from_slice(&[0x00, 0x42]);
+        assert_eq!(soundness(&v, &ring), SUCCESS, "{byte}");
+    }
+}
+
+/// A ring with such a name is refused until its journal is created anew.
+#[test]
+fn names_kept_until_the_journal_is_deleted() {
+    let (mut v, mut ring) = thirteen();
+    assert_eq!(soundness(&v, &ring), SUCCESS);
+    // The oldest record, which the next post would drop.
+    ring[80 + 76] = 0x5C;
+    assert_eq!(soundness(&v, &ring), FILE_CORRUPT_ERROR);
+    assert_eq!(soundness(&v, &ring), FILE_CORRUPT_ERROR);
+    assert_eq!((delete(&mut v, 3), finish(&mut v)), (SUCCESS, SUCCESS));
+    assert_eq!(create(&mut v, 4), SUCCESS);
+    assert_eq!(soundness(&v, &ring), SUCCESS);
+    let posted = post(&mut v, &mut ring, &change(1), b"a\0", &mut 0);
+    assert_eq!((posted, v.first, v.last), (SUCCESS, 1040, 1120));
+    let reply = [
+        &1120u64.to_le_bytes()[..],
+        &plain(2, &change(1), 1120, b"a\0"),
+    ]
+    .concat();
+    let all = ask(0, u32::MAX, 0, 4, None);
+    assert_eq!(read(&v, &ring, &all, 600), (SUCCESS, reply));
+}
+
+#[test]
+fn names_linked() {
+    let v = volume(0);
+    let link = |place, length, short| Link {
+        place,
+        length,
+        short,
+    };
+    let status = |name: &[u8], links: &[Link], input: &[u8], size| {
+        let pool = [b"x\0", name, &[0; 4]].concat();
+        let mut output = vec![0xCC; size];
+        let (status, count) = read_file(&v, &File::default(), 1, &pool, links, input, &mut output);
+        assert!(output[count..].iter().all(|&b| b == 0xCC));
+        status
+    };
+    for (names, due) in [
+        (&GOOD_NAMES[..], SUCCESS),
+        (&BAD_NAMES[..], FILE_CORRUPT_ERROR),
+    ] {
+        for name in names {
+            let (x, it) = (link(0, 2, 0), link(2, name.len() as u32, 0));
+            let short = |link: Link| Link { short: 1, ..link };
+            let chosen = [vec![it], vec![it, x], vec![x, short(it)]];
+            let others = [vec![x, it], vec![it, short(x)], vec![short(x), it]];
+            for links in chosen.iter().chain(&others) {
+                assert_eq!(status(name, links, &[], 64), due, "{name:?} {links:?}");
+                // The link table is judged ahead of versions and output.
+                if due != SUCCESS {
+                    assert_eq!(status(name, links, &[3, 0, 2, 0], 0), due);
+                }
+            }
+        }
+    }
+    // The pool may hold such units where no link's name is, and an empty name
+    // may stand there.
+    assert_eq!(
+        status(b"", &[link(0, 2, 0), link(2, 0, 1)], &[], 64),
+        SUCCESS
+    );
+}
+
+#[test]
+fn names_read() {
+    for version in [2, 3] {
+        let one = plain(version, &change(1), 80, b"a\0");
+        for name in GOOD_NAMES {
+            let record = plain(version, &change(1), 160, name);
+            assert!(read_record(&record, 0).is_some(), "{name:?}");
+            let reply = [&[0; 8], &one[..], &record].concat();
+            assert_eq!(walk_reply(&reply), Ok((0, 2)), "{name:?}");
+        }
+        for name in BAD_NAMES {
+            let record = plain(version, &change(1), 160, name);
+            assert_eq!(read_record(&record, 0), None, "{name:?}");
+            let reply = [&[0; 8], &one[..], &record].concat();
+            let at = 8 + one.len();
+            assert_eq!(walk_reply(&reply), Err(at), "{name:?}");
+            assert_eq!(text(&reply), format!("bad at {at}\n"), "{name:?}");
+        }
+        let nameless = plain(version, &change(1), 80, b"");
+        assert!(read_record(&nameless, 0).is_some());
+    }
+}
+
+#[test]
+fn names_loaded() {
+    for (names, status) in [
+        (&GOOD_NAMES[..], SUCCESS),
+        (&BAD_NAMES[..], FILE_CORRUPT_ERROR),
+    ] {
+        for name in names {
+            assert_eq!(load(&image_of(88, 1, &[name])), status, "{name:?}");
+            let between = image_of(88, 1, &[b"a\0", name, b"b\0"]);
+            assert_eq!(load(&between), status, "{name:?}");
+        }
+        for name in names.iter().filter(|name| name.len() == 4) {
+            let mut image = ONE_IMAGE.to_vec();
+            image[60..64].copy_from_slice(name);
+            assert_eq!(load(&resealed(image)), status, "{name:?}");
+        }
+    }
+    // Behind the form number, ahead of the id and of the ring's room.
+    let names = [&BAD_NAMES[..], &[&[1; 510], &[1; 510]]].concat();
+    let mut long = image_of(88, 7, &names);
+    let idle = volume(1024);
+    let status = load_under(&idle, &[0; 1024], &long, 7).0;
+    assert_eq!(status, FILE_CORRUPT_ERROR);
+    let form = long.len() - 4;
+    long[form] = 2;
+    let status = load_under(&idle, &[0; 1024], &long, 7).0;
+    assert_eq!(status, UNKNOWN_REVISION);
+}
+
 /// A small generator of random numbers.
 struct Random(u64);
 
@@ -1531,6 +1786,15 @@ impl Random {
             .wrapping_mul(6364136223846793005)
             .wrapping_add(1442695040888963407);
         (self.0 >> 33) % limit
+    }
+
+    /// A good name: a unit whose upper byte is not 0 is none of the excluded.
+    fn name(&mut self, length: usize) -> Vec<u8> {
+        let mut name: Vec<u8> = (0..length).map(|_| self.below(256) as u8).collect();
+        for upper in name.iter_mut().skip(1).step_by(2) {
+            *upper = (*upper).max(1);
+        }
+        name
     }
 }
 

@@ -1,5 +1,5 @@
 //! What the tests share: random numbers, the seed, counts of statuses, lent
-//! buffers with guard bytes, and the layout of a record.
+//! buffers with guard bytes, names, and the layout of a record.
 
 #![allow(dead_code)]
 
@@ -14,6 +14,11 @@ pub const NEGATIVE: u64 = 1 << 63;
 pub struct Rng(u64);
 
 impl Rng {
+    /// Numbers that are the same in every run.
+    pub fn fixed() -> Rng {
+        Rng(0)
+    }
+
     /// The numbers for one test. Each test has a stream of its own.
     pub fn new(test: &str) -> Rng {
         let seed = seed();
@@ -529,6 +534,72 @@ pub fn name_length(rng: &mut Rng, bad: u64) -> usize {
         6..=8 => 2 * rng.between(1, 20) as usize,
         _ => 2 * rng.between(1, 255) as usize,
     }
+}
+
+/// The code units that no name may hold.
+pub const EXCLUDED: [u16; 3] = [0x0000, 0x002F, 0x005C];
+
+/// Units that only look like an excluded one: the number is next to it, or one
+/// of the bytes is the same, or its bytes are in the other order.
+pub const ALIKE: [u16; 18] = [
+    0x0001, 0x002E, 0x0030, 0x005B, 0x005D, 0x0100, 0x015C, 0x2F00, 0x2F5C, 0x5C00, 0x5C2F, 0x5C5C,
+    0x7FFF, 0x8000, 0x802F, 0x805C, 0xFF5C, 0xFFFF,
+];
+
+/// Whether one of a name's code units is excluded. They stand at the even places.
+pub fn holds_excluded(name: &[u8]) -> bool {
+    name.chunks_exact(2)
+        .any(|unit| EXCLUDED.contains(&u16::from_le_bytes([unit[0], unit[1]])))
+}
+
+/// Random bytes for a name, which is good if its length is. No two bytes, at an
+/// even place or an odd one, are an excluded unit: what begins anywhere in them
+/// is good too.
+pub fn name(rng: &mut Rng, length: usize) -> Vec<u8> {
+    let mut name = rng.bytes(length);
+    for place in 1..length {
+        if holds_excluded(&name[place - 1..=place]) {
+            name[place] = 0x61;
+        }
+    }
+    name
+}
+
+/// A name as a call may be given it: one in `odd` has a unit planted in it.
+pub fn any_name(rng: &mut Rng, length: usize, odd: u64) -> Vec<u8> {
+    let mut name = name(rng, length);
+    if rng.below(odd) == 0 {
+        plant_some(rng, &mut name);
+    }
+    name
+}
+
+/// Plants a unit somewhere in a name that has room for one: one that is excluded,
+/// one that looks alike, or the bytes of an excluded one at an odd place.
+pub fn plant_some(rng: &mut Rng, name: &mut [u8]) {
+    let units = name.len() as u64 / 2;
+    match rng.below(4) {
+        _ if units == 0 => {}
+        0..=1 => plant_excluded(rng, name),
+        2 => plant(name, 2 * rng.below(units) as usize, rng.pick(&ALIKE)),
+        _ if units == 1 => {}
+        _ => plant(
+            name,
+            2 * rng.below(units - 1) as usize + 1,
+            rng.pick(&EXCLUDED),
+        ),
+    }
+}
+
+/// Plants an excluded unit in a name that is not empty.
+pub fn plant_excluded(rng: &mut Rng, name: &mut [u8]) {
+    let place = 2 * rng.below(name.len() as u64 / 2) as usize;
+    plant(name, place, rng.pick(&EXCLUDED));
+}
+
+/// Writes a unit's two bytes at a place.
+pub fn plant(name: &mut [u8], place: usize, unit: u16) {
+    name[place..place + 2].copy_from_slice(&unit.to_le_bytes());
 }
 
 /// The fields of a change.

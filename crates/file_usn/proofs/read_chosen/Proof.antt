@@ -7,8 +7,7 @@ use Prim.Native.Nat.{_+_, _^_}
 use native.Mathlib.Omega.{arith}
 use lib.Dec.{leb, ltb}
 use lib.ListN.{length}
-use borrow.Author.Tests.{ltb-true}
-use Rattle.le.proofs.Runs.{and-left, and-right}
+use Rattle.le.proofs.Runs.{and-right}
 use Rattle.status.specs.declared.Status.{Status}
 use Rattle.status.specs.declared.Status.the-variants.{InvalidDeviceRequest, BufferTooSmall, FileCorruptError}
 use Rattle.status.specs.Check.{unless, else}
@@ -43,8 +42,7 @@ write-file-requires : tie.Need-write-file-requires
 write-file-requires c κs =
     let m = c .before .before .before in
     let s = start (m .before .before) in
-    let usn = ltb (s .args .f .usn) (2 ^ 63) in
-    (s .pre (and-right usn (s .args .table) (sound m)), rw (c .before .fields-of .ensures) (ltb-true _ _ (and-left usn (s .args .table) (sound m))))
+    s .pre (and-right (ltb (s .args .f .usn) (2 ^ 63)) (s .args .table) (sound m))
 
 returns : tie.Need-returns
 unfolding namedReply

@@ -1,0 +1,4 @@
+pub mod Names
+pub mod Units
+pub mod Words
+pub mod Examples

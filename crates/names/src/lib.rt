@@ -1,0 +1,107 @@
+// The rule for a name: even, at most 510 bytes, and no code unit 0, 0x2F or 0x5C. A code unit is two bytes, the lower first.
+ghost use mathlib.Core.Path.{_≡_};
+ghost use mathlib.Core.List.{_++_};
+ghost use Prim.Native.Nat.{_+_, _%_};
+ghost use lib.Bits.{bitAnd};
+ghost use lib.ListN.{length};
+ghost use Rattle.names.specs.Names.{goodUnit, goodUnits, goodName};
+
+// Bit 15 of each of the four code units of a word.
+const TOPS: u64 = 0x8000_8000_8000_8000;
+
+// The bits below it.
+const LOWS: u64 = 0x7FFF_7FFF_7FFF_7FFF;
+
+// The code units that no name holds but for 0, four times each.
+const SLASHES: u64 = 0x002F_002F_002F_002F;
+
+const BACKSLASHES: u64 = 0x005C_005C_005C_005C;
+
+// ---- Code units.
+
+// Whether a name may hold a code unit.
+fn good_unit(u: u64) -> bool
+    ensures { λ r. ⌜ r ≡ goodUnit u ⌝ }
+{
+    if u == 0 {
+        return false;
+    }
+    if u == 0x2F {
+        return false;
+    }
+    u != 0x5C
+}
+
+// Whether a name may hold each code unit of `s`: one at a time.
+fn each_good(s: &[u8]) -> bool
+    ensures { λ r. ⌜ r ≡ goodUnits (now (s .entry)) ⌝ }
+{
+    let mut i = 0;
+    while 2 <= s.len() - i {
+        if !good_unit(le::get(s, i, 2)) {
+            return false;
+        }
+        i += 2;
+    }
+    true
+}
+
+// Of each code unit of a word: bit 15 is set where one of the bits below it is set in z. No code unit carries into the next.
+fn nonzero(z: u64) -> u64
+    ensures { λ r. ⌜ r ≡ bitAnd z 0x7FFF_7FFF_7FFF_7FFF + 0x7FFF_7FFF_7FFF_7FFF ⌝ }
+{
+    (z & LOWS) + LOWS
+}
+
+// Whether a name may hold each code unit of `s`: four at a time. The loop has no exit, so that it is compiled to one over wider
+// words: bit 15 of each code unit of `seen` stays set as long as only good ones came by there. Where a bit is lost, each code unit is
+// looked at.
+fn good_units(s: &[u8]) -> bool
+    ensures { λ r. ⌜ r ≡ goodUnits (now (s .entry)) ⌝ }
+{
+    let mut seen = TOPS;
+    let mut i = 0;
+    while 8 <= s.len() - i {
+        let w = le::get(s, i, 8);
+        // a code unit with bit 15 is good, whatever it is else
+        seen = seen & ((nonzero(w) & nonzero(w ^ SLASHES) & nonzero(w ^ BACKSLASHES)) | w);
+        i += 8;
+    }
+    if seen & TOPS == TOPS {
+        return each_good(&s[i..]);
+    }
+    each_good(s)
+}
+
+// ---- Names.
+
+// Whether there may be this name.
+pub fn good_name(name: &[u8]) -> bool
+    ensures { λ r. ⌜ r ≡ goodName (now (name .entry)) ⌝ }
+{
+    if 510 < name.len() {
+        return false;
+    }
+    if name.len() % 2 != 0 {
+        return false;
+    }
+    // a name of less than a word
+    if name.len() < 8 {
+        return each_good(name);
+    }
+    good_units(name)
+}
+
+// Whether there may be a name of these two parts, the first of which has whole code units.
+pub fn good_parts(head: &[u8], tail: &[u8]) -> bool
+    requires { ⌜ length (now head) % 2 ≡ 0 ⌝ }
+    ensures { λ r. ⌜ r ≡ goodName (now (head .entry) ++ now (tail .entry)) ⌝ }
+{
+    if !good_name(head) {
+        return false;
+    }
+    if !good_name(tail) {
+        return false;
+    }
+    head.len() + tail.len() <= 510
+}

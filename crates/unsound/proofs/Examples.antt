@@ -1,0 +1,84 @@
+-- A ring that keeps a record with the name 0x5C, and the same ring with 0x5D in its place.
+-- Assumes nothing.
+use mathlib.Core.Path.{_≡_, refl}
+use mathlib.Core.List.{List, [], _∷_, _++_}
+use Prim.Native.Nat.{ℕ}
+use lib.ListN.{replicate}
+use Rattle.le.specs.Numbers.{le, unle, numberAt, encode, decode}
+use Rattle.le.specs.Bytes.{begins}
+use Rattle.status.specs.declared.Status.{Status}
+use Rattle.status.specs.declared.Status.the-variants.{Success, InvalidParameter, FileCorruptError}
+use Rattle.volume.specs.State.{goodCapacity, goodPosition}
+use Rattle.names.specs.Names.{goodUnit, goodUnits, goodName}
+use Rattle.usn_record.specs.Layout.{layout}
+use Rattle.record_reader.specs.Read.{accepted, parseAs, parse}
+use Rattle.records.specs.Records.{recordsIn, records, joined}
+use Rattle.ring.specs.Ring.{rotated, placed}
+use Rattle.journal.specs.Kept.{keptBytes, keeps, chained, goodMarks, sound, kept}
+use Rattle.journal.specs.Boundary.{recordsAfter, oldest}
+use Rattle.kept_writer.specs.Kept.{fits}
+use Rattle.journal_post.specs.declared.Change.{Change}
+use Rattle.journal_post.specs.Post.{postedName, postCheck, verdict, postedVolume, postedRing}
+use Rattle.journal_post.specs.Posts.{Journal}
+use Rattle.journal_page.specs.Select.{wanted}
+use Rattle.journal_page.specs.Page.{pageOf, pageReply}
+use Rattle.journal_read.specs.Input.{argumentCheck}
+use Rattle.journal_read.specs.Read.{isDeleted, origin, deletedCheck, readAnswer, readReply}
+use Rattle.image.specs.Image.{sealed, imageOf}
+use Rattle.image_save.specs.Save.{saveCheck, imageReply, saveAs}
+use Rattle.history.specs.Calls.{Call, create, post, read, delete, finish, save, statusOf, next}
+
+-- one record of 80 bytes from position 80 on, with a name of one code unit, and bytes that no record wrote
+abbrev keeping : ℕ → Journal
+keeping unit =
+    record {
+      volume = record { usn = 0; regions = 0; reparse = 0; points = 0; journal = 1; state = 1; id = 7; first = 80; last = 160; capacity = 1024 };
+      ring =
+          replicate 80 0xFF
+          ++ (80 ∷ 0 ∷ 0 ∷ 0 ∷ 3 ∷ 0 ∷ 0 ∷ 0
+          ∷ 5 ∷ 0 ∷ 0 ∷ 0 ∷ 0 ∷ 0 ∷ 0 ∷ 0
+          ∷ 0 ∷ 0 ∷ 0 ∷ 0 ∷ 0 ∷ 0 ∷ 0 ∷ 0
+          ∷ 6 ∷ 0 ∷ 0 ∷ 0 ∷ 0 ∷ 0 ∷ 0 ∷ 0
+          ∷ 0 ∷ 0 ∷ 0 ∷ 0 ∷ 0 ∷ 0 ∷ 0 ∷ 0
+          ∷ 160 ∷ 0 ∷ 0 ∷ 0 ∷ 0 ∷ 0 ∷ 0 ∷ 0
+          ∷ 0 ∷ 0 ∷ 0 ∷ 0 ∷ 0 ∷ 0 ∷ 0 ∷ 0
+          ∷ 0 ∷ 1 ∷ 0 ∷ 0 ∷ 0 ∷ 0 ∷ 0 ∷ 0
+          ∷ 0 ∷ 0 ∷ 0 ∷ 0 ∷ 0x20 ∷ 0 ∷ 0 ∷ 0
+          ∷ 2 ∷ 0 ∷ 76 ∷ 0 ∷ unit ∷ 0 ∷ 0 ∷ 0 ∷ []) ++ replicate 864 0xFF;
+    }
+
+-- a post of the name 'a' and then of 'a\', a read from the oldest record on with a room of 600 bytes, a save
+abbrev change : Change
+change = record { file = 5; parent = 6; time = 0; reason = 0x100; source = 0; security = 0; attributes = 0x20 }
+
+abbrev good : Call
+good = post (record { change = change; name = 0x61 ∷ 0 ∷ [] })
+
+abbrev separated : Call
+separated = post (record { change = change; name = 0x61 ∷ 0 ∷ 0x5C ∷ 0 ∷ [] })
+
+-- StartUsn 0, every Reason, the journal's id
+abbrev all : ℕ → Call
+all id =
+    read
+    (record {
+      input = replicate 8 0 ++ (0xFF ∷ 0xFF ∷ 0xFF ∷ 0xFF ∷ []) ++ replicate 20 0 ++ (id ∷ []) ++ replicate 7 0;
+      room = 600;
+    })
+
+-- what each call of a list answers
+abbrev statuses : Journal → List Call → List Status
+statuses j [] = []
+statuses j (c ∷ cs) = statusOf j c ∷ statuses (next j c) cs
+
+-- refused until the journal is deleted and created anew; then only the name with the separator is
+pub refused-until-anew :
+    statuses (keeping 0x5C) (good ∷ all 7 ∷ save 600 ∷ create 8 ∷ delete 7 ∷ finish ∷ create 8 ∷ good ∷ separated ∷ all 8 ∷ save 600 ∷ [])
+    ≡ FileCorruptError ∷ FileCorruptError ∷ FileCorruptError ∷ InvalidParameter ∷ Success ∷ Success ∷ Success ∷ Success ∷ InvalidParameter ∷ Success ∷ Success ∷ []
+unfolding verdict postCheck postedName postedVolume postedRing oldest placed rotated sound goodMarks goodCapacity goodPosition kept keptBytes records recordsIn parse parseAs accepted goodName goodUnits goodUnit layout encode decode le unle numberAt begins chained keeps wanted fits pageOf pageReply recordsAfter argumentCheck isDeleted origin deletedCheck readAnswer readReply saveCheck imageReply saveAs imageOf sealed joined
+refused-until-anew = refl
+
+-- with another name it is not
+pub not-refused : statuses (keeping 0x5D) (good ∷ all 7 ∷ save 600 ∷ separated ∷ []) ≡ Success ∷ Success ∷ Success ∷ InvalidParameter ∷ []
+unfolding verdict postCheck postedName postedVolume postedRing oldest placed rotated sound goodMarks goodCapacity goodPosition kept keptBytes records recordsIn parse parseAs accepted goodName goodUnits goodUnit layout encode decode le unle numberAt begins chained keeps wanted fits pageOf pageReply recordsAfter argumentCheck isDeleted origin deletedCheck readAnswer readReply saveCheck imageReply saveAs imageOf sealed joined
+not-refused = refl
