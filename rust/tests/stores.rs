@@ -162,7 +162,7 @@ impl Call {
 const NAME: &[u8; 512] = &[0x61; 512];
 
 /// Names for posts that have a right length and an excluded unit.
-const EXCLUDED: [&[u8]; 3] = [b"\0\0", b"a\0/\0b\0", b"abcdefghijklmnopqrst\\\0"];
+const BAD_NAMES: [&[u8]; 3] = [b"\0\0", b"a\0/\0b\0", b"abcdefghijklmnopqrst\\\0"];
 
 /// A call on a record that is cut in two, which parts are writable, and what the
 /// model makes of it.
@@ -352,7 +352,7 @@ fn post_stores_first_and_last_or_nothing() {
     let expected = [Success, InvalidParameter, DiskFull, FileCorruptError];
     try_calls("stores of post", &expected, |rng| {
         let name = match rng.below(8) {
-            0 => rng.pick(&EXCLUDED),
+            0 => rng.pick(&BAD_NAMES),
             _ => &NAME[..rng.pick(&[0, 1, 2, 2, 2, 4, 100, 510, 511, 512])],
         };
         Call::Post(common::change(rng), name)

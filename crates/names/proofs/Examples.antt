@@ -1,26 +1,43 @@
--- The rule on a few names.
+-- The rule on names whose bytes are written out.
 -- Assumes nothing.
 use mathlib.Core.Path.{_≡_, refl}
-use mathlib.Core.List.{[], _∷_}
+use mathlib.Core.List.{List, [], _∷_, map}
 use mathlib.Core.Bool.{true, false}
+use Prim.Native.Nat.{ℕ}
+use lib.ListN.{replicate}
 use Rattle.names.specs.Names.{goodUnit, goodUnits, goodName}
 
--- 'a.' is good
-pub letters : goodName (0x61 ∷ 0 ∷ 0x2E ∷ 0 ∷ []) ≡ true
-unfolding goodName goodUnits goodUnit
-letters = refl
+-- the empty name, 'a.', and names that hold the bytes of the excluded code units but not these: U+5C00, U+015C, U+FF5C, U+2F00 U+5C5C; and
+-- at odd places, 5C 00 and 2F 00
+abbrev pub good : List (List ℕ)
+good =
+    []
+    ∷ (0x61 ∷ 0 ∷ 0x2E ∷ 0 ∷ [])
+    ∷ (0 ∷ 0x5C ∷ [])
+    ∷ (0x5C ∷ 0x01 ∷ [])
+    ∷ (0x5C ∷ 0xFF ∷ [])
+    ∷ (0 ∷ 0x2F ∷ 0x5C ∷ 0x5C ∷ [])
+    ∷ (0x61 ∷ 0x5C ∷ 0 ∷ 0x2F ∷ 0 ∷ 0x62 ∷ [])
+    ∷ replicate 510 0x61
+    ∷ []
 
--- 'a\' is not
-pub separator : goodName (0x61 ∷ 0 ∷ 0x5C ∷ 0 ∷ []) ≡ false
+pub all-good : map goodName good ≡ replicate 8 true
 unfolding goodName goodUnits goodUnit
-separator = refl
+all-good = refl
 
--- U+2F00 and U+5C5C hold the bytes, and not the units
-pub other-half : goodName (0 ∷ 0x2F ∷ 0x5C ∷ 0x5C ∷ []) ≡ true
+-- each excluded code unit alone, as the last, the first and one inside; an odd name, and one that is too long
+abbrev pub bad : List (List ℕ)
+bad =
+    (0 ∷ 0 ∷ [])
+    ∷ (0x2F ∷ 0 ∷ [])
+    ∷ (0x5C ∷ 0 ∷ [])
+    ∷ (0x61 ∷ 0 ∷ 0x5C ∷ 0 ∷ [])
+    ∷ (0x2F ∷ 0 ∷ 0x61 ∷ 0 ∷ [])
+    ∷ (0x61 ∷ 0 ∷ 0 ∷ 0 ∷ 0x62 ∷ 0 ∷ [])
+    ∷ (0x61 ∷ [])
+    ∷ replicate 512 0x61
+    ∷ []
+
+pub all-bad : map goodName bad ≡ replicate 8 false
 unfolding goodName goodUnits goodUnit
-other-half = refl
-
--- U+0100 U+0001: two bytes of zero that are no unit
-pub across-units : goodUnits (0x00 ∷ 0x01 ∷ 0x01 ∷ 0x00 ∷ []) ≡ true
-unfolding goodUnits goodUnit
-across-units = refl
+all-bad = refl

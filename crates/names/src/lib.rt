@@ -12,9 +12,10 @@ const TOPS: u64 = 0x8000_8000_8000_8000;
 // The bits below it.
 const LOWS: u64 = 0x7FFF_7FFF_7FFF_7FFF;
 
-// The code units that no name holds but for 0, four times each.
+// 0x2F in each.
 const SLASHES: u64 = 0x002F_002F_002F_002F;
 
+// 0x5C in each.
 const BACKSLASHES: u64 = 0x005C_005C_005C_005C;
 
 // ---- Code units.

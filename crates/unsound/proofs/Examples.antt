@@ -1,6 +1,7 @@
 -- A ring that keeps a record with the name 0x5C, and the same ring with 0x5D in its place.
 -- Assumes nothing.
 use mathlib.Core.Path.{_≡_, refl}
+use mathlib.Core.Bool.{true, false}
 use mathlib.Core.List.{List, [], _∷_, _++_}
 use Prim.Native.Nat.{ℕ}
 use lib.ListN.{replicate}
@@ -10,7 +11,8 @@ use Rattle.status.specs.declared.Status.{Status}
 use Rattle.status.specs.declared.Status.the-variants.{Success, InvalidParameter, FileCorruptError}
 use Rattle.volume.specs.State.{goodCapacity, goodPosition}
 use Rattle.names.specs.Names.{goodUnit, goodUnits, goodName}
-use Rattle.usn_record.specs.Layout.{layout}
+use Rattle.usn_record.specs.declared.Version.the-variants.{V3}
+use Rattle.usn_record.specs.Layout.{layout, Record}
 use Rattle.record_reader.specs.Read.{accepted, parseAs, parse}
 use Rattle.records.specs.Records.{recordsIn, records, joined}
 use Rattle.ring.specs.Ring.{rotated, placed}
@@ -27,6 +29,7 @@ use Rattle.journal_read.specs.Read.{isDeleted, origin, deletedCheck, readAnswer
 use Rattle.image.specs.Image.{sealed, imageOf}
 use Rattle.image_save.specs.Save.{saveCheck, imageReply, saveAs}
 use Rattle.history.specs.Calls.{Call, create, post, read, delete, finish, save, statusOf, next}
+use Rattle.unsound.specs.Until.{Unsound}
 
 -- one record of 80 bytes from position 80 on, with a name of one code unit, and bytes that no record wrote
 abbrev keeping : ℕ → Journal
@@ -46,6 +49,24 @@ keeping unit =
           ∷ 0 ∷ 0 ∷ 0 ∷ 0 ∷ 0x20 ∷ 0 ∷ 0 ∷ 0
           ∷ 2 ∷ 0 ∷ 76 ∷ 0 ∷ unit ∷ 0 ∷ 0 ∷ 0 ∷ []) ++ replicate 864 0xFF;
     }
+
+-- it is one that `Until` speaks of
+pub is-unsound : Unsound (keeping 0x5C)
+unfolding sound goodMarks goodCapacity goodPosition keptBytes rotated records recordsIn parse parseAs accepted goodName goodUnits goodUnit layout encode decode le unle begins chained keeps
+is-unsound = record { active = refl; unsound = refl }
+
+-- and so is its record
+abbrev kept-one : Record
+kept-one =
+    record {
+      version = V3;
+      fields = record { file = 5; parent = 6; usn = 160; time = 0; reason = 0x100; source = 0; security = 0; attributes = 0x20 };
+      name = 0x5C ∷ 0 ∷ [];
+    }
+
+pub names-met : (keptBytes (keeping 0x5C .volume) (keeping 0x5C .ring) ≡ joined (kept-one ∷ [])) × (goodName (kept-one .name) ≡ false)
+unfolding keptBytes rotated joined layout encode le goodName goodUnits goodUnit
+names-met = (refl, refl)
 
 -- a post of the name 'a' and then of 'a\', a read from the oldest record on with a room of 600 bytes, a save
 abbrev change : Change

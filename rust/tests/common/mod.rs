@@ -565,10 +565,10 @@ pub fn name(rng: &mut Rng, length: usize) -> Vec<u8> {
     name
 }
 
-/// A name as a call may be given it: one in `odd` has a unit planted in it.
-pub fn any_name(rng: &mut Rng, length: usize, odd: u64) -> Vec<u8> {
+/// A name as a call may be given it: one in `planted` has a unit planted in it.
+pub fn any_name(rng: &mut Rng, length: usize, planted: u64) -> Vec<u8> {
     let mut name = name(rng, length);
-    if rng.below(odd) == 0 {
+    if rng.below(planted) == 0 {
         plant_some(rng, &mut name);
     }
     name
@@ -601,6 +601,17 @@ pub fn plant_excluded(rng: &mut Rng, name: &mut [u8]) {
 pub fn plant(name: &mut [u8], place: usize, unit: u16) {
     name[place..place + 2].copy_from_slice(&unit.to_le_bytes());
 }
+
+/// The change that is in every record made by hand.
+pub const CHANGE: Change = Change {
+    file: 41,
+    parent: 5,
+    time: 0x1234_5678_9ABC_DEF0,
+    reason: 0x8000_0102,
+    source: 1,
+    security: 2,
+    attributes: 0x20,
+};
 
 /// The fields of a change.
 pub fn change(rng: &mut Rng) -> Change {
