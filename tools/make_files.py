@@ -13,7 +13,6 @@ GUID = bytes(range(1, 17))
 
 
 def pattern(n, step):
-    # with step 3 no code unit of it is 0, 0x2F or 0x5C, so that rule for a name decides nothing here
     return bytes(i % 251 * step % 251 for i in range(n))
 
 
@@ -87,6 +86,7 @@ class Cases:
     """Calls on one file: their rows, and the lines that they must print."""
 
     def __init__(self, name, links=(), pool=65536, output=128):
+        # no code unit of this pool is 0, 0x2F or 0x5C, so the rule on code units decides nothing here
         self.name, self.links, self.pool, self.output = name, list(links), pattern(pool, 3), output
         self.rows, self.lines = [(len(links), pool, output)] + self.links, ["# " + name]
 

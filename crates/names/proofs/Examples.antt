@@ -7,8 +7,8 @@ use Prim.Native.Nat.{ℕ}
 use lib.ListN.{replicate}
 use Rattle.names.specs.Names.{goodUnit, goodUnits, goodName}
 
--- the empty name, 'a.', and names that hold the bytes of the excluded code units but not these: U+5C00, U+015C, U+FF5C, U+2F00 U+5C5C; and
--- at odd places, 5C 00 and 2F 00
+-- the empty name, 'a.', and names that hold the bytes of the excluded code units but not these: U+5C00, U+015C, U+FF5C, U+2F00 U+5C5C; at
+-- odd places, 5C 00 and 2F 00, and 00 00; and the longest
 abbrev pub good : List (List ℕ)
 good =
     []
@@ -18,14 +18,15 @@ good =
     ∷ (0x5C ∷ 0xFF ∷ [])
     ∷ (0 ∷ 0x2F ∷ 0x5C ∷ 0x5C ∷ [])
     ∷ (0x61 ∷ 0x5C ∷ 0 ∷ 0x2F ∷ 0 ∷ 0x62 ∷ [])
+    ∷ (0x61 ∷ 0 ∷ 0 ∷ 0x61 ∷ [])
     ∷ replicate 510 0x61
     ∷ []
 
-pub all-good : map goodName good ≡ replicate 8 true
+pub all-good : map goodName good ≡ replicate 9 true
 unfolding goodName goodUnits goodUnit
 all-good = refl
 
--- each excluded code unit alone, as the last, the first and one inside; an odd name, and one that is too long
+-- each excluded code unit alone; 0x5C as the last, 0x2F as the first, 0 inside; an odd name, and one that is too long
 abbrev pub bad : List (List ℕ)
 bad =
     (0 ∷ 0 ∷ [])

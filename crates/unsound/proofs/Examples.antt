@@ -50,12 +50,12 @@ keeping unit =
           ∷ 2 ∷ 0 ∷ 76 ∷ 0 ∷ unit ∷ 0 ∷ 0 ∷ 0 ∷ []) ++ replicate 864 0xFF;
     }
 
--- it is one that `Until` speaks of
+-- with 0x5C it is a journal that `Until` speaks of
 pub is-unsound : Unsound (keeping 0x5C)
 unfolding sound goodMarks goodCapacity goodPosition keptBytes rotated records recordsIn parse parseAs accepted goodName goodUnits goodUnit layout encode decode le unle begins chained keeps
 is-unsound = record { active = refl; unsound = refl }
 
--- and so is its record
+-- and its record is one that `names` speaks of
 abbrev kept-one : Record
 kept-one =
     record {
