@@ -86,11 +86,14 @@ pub fn good_name(name: &[u8]) -> bool
     if name.len() % 2 != 0 {
         return false;
     }
-    // a name of less than a word
+    // Lent anew, as below: where a parameter is only looked into and not handed on, compilers pass its place and length in registers, and
+    // a walk over records calls this for each of them.
+    let whole = &name[0..];
+    // less than a word: the loop over words would do nothing
     if name.len() < 8 {
-        return each_good(name);
+        return each_good(whole);
     }
-    good_units(name)
+    good_units(whole)
 }
 
 // Whether there may be a name of these two parts, the first of which has whole code units.
