@@ -43,12 +43,14 @@ extern "C" {
 #endif
 
 /*
- * The version of this interface. It changes with every change of a struct or a call: a program that was compiled with another one
- * must be compiled again. Since version 2 the library is called lanhduxe, and this header lays out numbers and inputs. Since version 3
- * a journal can be saved to an image and loaded again. Since version 4 USN_BUFFER_OVERFLOW, which was a refusal, is a warning with 40
- * bytes of reply: a caller that drops what comes with a status other than USN_SUCCESS must keep them.
+ * The version of this interface. It changes with every change of a struct or a call, and of what a call accepts or answers: a program
+ * that was compiled with another one must be compiled again, and its author should read what changed. Since version 2 the library is
+ * called lanhduxe, and this header lays out numbers and inputs. Since version 3 a journal can be saved to an image and loaded again.
+ * Since version 4 USN_BUFFER_OVERFLOW, which was a refusal, is a warning with 40 bytes of reply: a caller that drops what comes with a
+ * status other than USN_SUCCESS must keep them. Since version 5 a name with a code unit 0, 0x2F or 0x5C is refused, in a ring or an image
+ * from before too.
  */
-#define LANHDUXE_VERSION 4
+#define LANHDUXE_VERSION 5
 
 /* ---- Statuses, by the numbers of [MS-ERREF] ---- */
 
@@ -130,7 +132,7 @@ typedef struct usn_file {
 /* One link of a file. */
 typedef struct usn_link {
     uint32_t place;        /* where its name begins in the name pool */
-    uint32_t length;       /* the name's length in bytes: even, 0 to USN_NAME_MAX, inside the pool */
+    uint32_t length;       /* the name's length in bytes: even, 0 to USN_NAME_MAX, inside the pool; its code units as above (Names) */
     uint32_t short_length; /* its short name's length; only 0 or not matters */
 } usn_link;
 

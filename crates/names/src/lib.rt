@@ -86,8 +86,8 @@ pub fn good_name(name: &[u8]) -> bool
     if name.len() % 2 != 0 {
         return false;
     }
-    // Lent anew, as below: where a parameter is only looked into and not handed on, compilers pass its place and length in registers, and
-    // a walk over records calls this for each of them.
+    // Lent anew: a slice that a function hands on as it came is passed to that function in memory, one that it only looks into in
+    // registers, and a walk over records calls this for each of them.
     let whole = &name[0..];
     // less than a word: the loop over words would do nothing
     if name.len() < 8 {
