@@ -29,8 +29,13 @@
  * or 0x5C ('\\'). That is asked wherever a name is judged: of a post, of every record in a ring, of every link, of a record that is read
  * and of every record in an image. The name of a post, and of a record in a ring or an image, is not empty.
  *
+ * Ids. A file's id, and its parent's, is a number of 128 bits, passed as its sixteen bytes. Any number is one. An id is wide if one of its
+ * upper eight bytes is not 0. A record of version 3 has all sixteen bytes; one of version 2 has the lower eight, and cannot show a wide id.
+ * An image of form 1 has records of version 2, and so no wide ids.
+ *
  * Versions. A caller names the lowest and the highest version of a record that it can read. The reply has version 3 if the highest is
- * 3 or more, else version 2. Both are refused if the lowest is above the highest or above 3, or the highest below 2.
+ * 3 or more, else version 2. Both are refused if the lowest is above the highest or above 3, or the highest below 2. Where ids may be
+ * wide, a reader should ask for version 3: in version 2 it comes to the first record with a wide id that it selects, and no further.
  */
 #ifndef LANHDUXE_H
 #define LANHDUXE_H
@@ -48,9 +53,10 @@ extern "C" {
  * called lanhduxe, and this header lays out numbers and inputs. Since version 3 a journal can be saved to an image and loaded again.
  * Since version 4 USN_BUFFER_OVERFLOW, which was a refusal, is a warning with 40 bytes of reply: a caller that drops what comes with a
  * status other than USN_SUCCESS must keep them. Since version 5 a name with a code unit 0, 0x2F or 0x5C is refused, in a ring or an image
- * from before too.
+ * from before too. Since version 6 an id has 128 bits and is a usn_id, in usn_change, usn_file, usn_record and usn_read_file; the upper
+ * bytes of an id in a record of version 3, which had to be 0, may be any; and what version 2 cannot show is USN_NOT_SUPPORTED.
  */
-#define LANHDUXE_VERSION 5
+#define LANHDUXE_VERSION 6
 
 /* ---- Statuses, by the numbers of [MS-ERREF] ---- */
 
@@ -61,6 +67,7 @@ extern "C" {
 #define USN_BUFFER_TOO_SMALL           0xC0000023u
 #define USN_UNKNOWN_REVISION           0xC0000058u
 #define USN_DISK_FULL                  0xC000007Fu
+#define USN_NOT_SUPPORTED              0xC00000BBu
 #define USN_FILE_CORRUPT_ERROR         0xC0000102u
 #define USN_NOT_A_REPARSE_POINT        0xC0000275u
 #define USN_VOLUME_NOT_UPGRADED        0xC000029Cu
@@ -107,10 +114,15 @@ typedef struct usn_volume {
     uint64_t capacity; /* the ring's length */
 } usn_volume;
 
+/* A file's id, of 128 bits; usn_id_of makes one of a number. */
+typedef struct usn_id {
+    uint8_t bytes[16]; /* lowest byte first */
+} usn_id;
+
 /* What a post says of a change, but for the name. */
 typedef struct usn_change {
-    uint64_t file;
-    uint64_t parent;
+    usn_id file;
+    usn_id parent;
     uint64_t time;
     uint32_t reason;
     uint32_t source;
@@ -120,7 +132,7 @@ typedef struct usn_change {
 
 /* A file's record. */
 typedef struct usn_file {
-    uint64_t id;
+    usn_id id;
     uint64_t usn;        /* the Usn of its last change, below 2^63 */
     uint64_t eof;        /* its length, below 2^63 */
     uint64_t valid;      /* valid data length, at most eof */
@@ -148,8 +160,8 @@ typedef struct usn_answer {
 typedef struct usn_record {
     uint32_t status;
     uint32_t version; /* 2 or 3 */
-    uint64_t file;
-    uint64_t parent;
+    usn_id file;      /* in version 2 neither id is wide */
+    usn_id parent;
     uint64_t usn;
     uint64_t time;
     uint32_t reason;
@@ -185,6 +197,14 @@ static inline uint64_t usn_get_number(const uint8_t *bytes, size_t width)
     while (width > 0)
         number = (number << 8) | bytes[--width];
     return number;
+}
+
+/* The id with this number, which is not wide. */
+static inline usn_id usn_id_of(uint64_t number)
+{
+    usn_id id = { { 0 } };
+    usn_put_number(id.bytes, number, 8);
+    return id;
 }
 
 /* ---- The journal ---- */
@@ -245,15 +265,17 @@ static inline void usn_put_read_input(uint8_t bytes[USN_READ_INPUT_SIZE], usn_re
 }
 
 /*
- * Reads the journal: a position of 8 bytes, then the selected records, up to the first that does not fit (FSCTL_READ_USN_JOURNAL). A
- * reader returns with each reply's position as its next StartUsn.
+ * Reads the journal: a position of 8 bytes, then the selected records, up to the first that does not fit (FSCTL_READ_USN_JOURNAL). In
+ * version 2 a reply ends before a selected record with a wide file or parent id too, as if it did not fit. A reader returns with each
+ * reply's position as its next StartUsn.
  * Input: StartUsn i64, ReasonMask u32, ReturnOnlyOnClose u32, Timeout u64 and BytesToWaitFor u64 (both ignored), id u64; from 48 bytes
  * on also the lowest and highest version, u16 each, else the version is 2. StartUsn 0 means the oldest kept record. It is signed: -8
  * lies before every position and is JOURNAL_ENTRY_DELETED.
  * INVALID_DEVICE_REQUEST without support; JOURNAL_DELETE_IN_PROGRESS; JOURNAL_NOT_ACTIVE; INVALID_PARAMETER below 40 bytes of
  * input; BUFFER_TOO_SMALL below 8 bytes of output; INVALID_PARAMETER for the versions, then for the id; FILE_CORRUPT_ERROR for a
  * ring that is not sound; JOURNAL_ENTRY_DELETED for a start before the first position; INVALID_PARAMETER for one past LastUsn or
- * off a record's boundary; BUFFER_TOO_SMALL if the first selected record has no room.
+ * off a record's boundary; NOT_SUPPORTED in version 2 if the first selected record has a wide file or parent id, whatever its room;
+ * BUFFER_TOO_SMALL if it has no room. After NOT_SUPPORTED a read in version 3 from the same start on shows the record.
  */
 usn_answer usn_read_journal(usn_volume volume, const uint8_t *ring, size_t ring_size,
                             const uint8_t *input, size_t input_size, uint8_t *output, size_t output_size);
@@ -284,7 +306,7 @@ static inline uint64_t usn_reply_position(const uint8_t *reply)
 /*
  * Saves the journal: writes its image, of `count` bytes. What is posted later is not in it.
  * INVALID_DEVICE_REQUEST without support; JOURNAL_DELETE_IN_PROGRESS; JOURNAL_NOT_ACTIVE; FILE_CORRUPT_ERROR for a ring that is not
- * sound; BUFFER_TOO_SMALL for an output shorter than the image.
+ * sound; NOT_SUPPORTED while a record with a wide file or parent id is kept; BUFFER_TOO_SMALL for an output shorter than the image.
  */
 usn_answer usn_save_journal(usn_volume volume, const uint8_t *ring, size_t ring_size, uint8_t *output, size_t output_size);
 
@@ -308,9 +330,10 @@ uint32_t usn_load_journal(usn_volume *volume, uint8_t *ring, size_t ring_size, c
  * of the first link with a short name; with no such link, of the first whose name is not empty; else an empty one.
  * Input: the lowest and highest version, u16 each; below 4 bytes the version is 2.
  * INVALID_DEVICE_REQUEST without support; FILE_CORRUPT_ERROR for a negative Usn or a bad link; INVALID_PARAMETER for the versions;
- * BUFFER_TOO_SMALL below 64 bytes of output (version 3: 80), then below the record's length.
+ * BUFFER_TOO_SMALL below 64 bytes of output (version 3: 80); NOT_SUPPORTED in version 2 if the file's id or `parent` is wide;
+ * BUFFER_TOO_SMALL below the record's length.
  */
-usn_answer usn_read_file(usn_volume volume, usn_file file, uint64_t parent, const uint8_t *pool, size_t pool_size,
+usn_answer usn_read_file(usn_volume volume, usn_file file, usn_id parent, const uint8_t *pool, size_t pool_size,
                          const usn_link *links, size_t link_count, const uint8_t *input, size_t input_size,
                          uint8_t *output, size_t output_size);
 
@@ -341,7 +364,7 @@ usn_answer usn_get_reparse_point(usn_volume volume, usn_file file, const uint8_t
 
 /* ---- Reading a reply ---- */
 
-/* Reads the record at place `at`. INVALID_PARAMETER where no whole and right record stands there. */
+/* Reads the record at place `at`, with any ids. INVALID_PARAMETER where no whole and right record stands there. */
 usn_record usn_read_record(const uint8_t *bytes, size_t size, size_t at);
 
 /* Walks a whole reply of usn_read_journal. INVALID_PARAMETER, with the place, where it is bad. */

@@ -1,6 +1,6 @@
 /*
- * What the header has itself: its functions, byte for byte, which statuses are refusals, and its states and limits, tried on the library
- * with the last number that is taken and the first that is not. Built as C and as C++.
+ * What the header has itself: its functions, byte for byte, which statuses are refusals, and its ids, states and limits, tried on the
+ * library with the last number that is taken and the first that is not. Built as C and as C++.
  */
 #include <stdio.h>
 #include <string.h>
@@ -34,6 +34,44 @@ static void try_functions(void)
     TRY(usn_get_number(bytes + 40, 2) == input.lowest);
 }
 
+/* What version 2 can show, and the first id that it cannot: 2^64, as the file's and as the parent's. */
+static void try_ids(void)
+{
+    static const uint8_t expected[16] = { 0x01, 0x02, 0x03, 0x04, 0x05, 0x06, 0x07, 0x88 };
+    static uint8_t ring[USN_CAPACITY_MIN], output[USN_READ_ROOM], image[USN_IMAGE_ROOM(sizeof ring)];
+    static const uint8_t name[2] = { 'a', 0 };
+    usn_id narrow = usn_id_of(0x8807060504030201), wide = { { 0, 0, 0, 0, 0, 0, 0, 0, 1 } };
+    usn_change changes[3] = { { narrow, narrow, 0, 1, 0, 0, 0 }, { wide, narrow, 0, 2, 0, 0, 0 }, { narrow, wide, 0, 4, 0, 0, 0 } };
+    usn_volume volume = { 1, 0, 0, 0, 1, USN_STATE_IDLE, 0, 0, 0, sizeof ring };
+    usn_file file = { wide, 0, 0, 0, 0, 0, { 0 } };
+    uint8_t input[USN_READ_INPUT_SIZE];
+    uint64_t usn = 0;
+    TRY(memcmp(narrow.bytes, expected, sizeof expected) == 0);
+
+    TRY(usn_create(&volume, 7) == USN_SUCCESS);
+    for (uint32_t i = 0; i < 3; i++) {
+        usn_read_input two = { 80 * i, changes[i].reason, 0, 7, 2, 2 }, three = { 80 * i, changes[i].reason, 0, 7, 3, 3 };
+        usn_record record;
+        TRY(usn_post(&volume, ring, sizeof ring, changes[i], name, sizeof name, &usn) == USN_SUCCESS);
+        usn_put_read_input(input, two);
+        TRY(usn_read_journal(volume, ring, sizeof ring, input, sizeof input, output, sizeof output).status
+            == (i == 0 ? USN_SUCCESS : USN_NOT_SUPPORTED));
+        usn_put_read_input(input, three);
+        TRY(usn_read_journal(volume, ring, sizeof ring, input, sizeof input, output, sizeof output).count == 88);
+        record = usn_read_record(output, 88, 8);
+        TRY(record.status == USN_SUCCESS && record.version == 3);
+        TRY(memcmp(&record.file, &changes[i].file, sizeof record.file) == 0);
+        TRY(memcmp(&record.parent, &changes[i].parent, sizeof record.parent) == 0);
+        TRY(usn_save_journal(volume, ring, sizeof ring, image, sizeof image).status == (i == 0 ? USN_SUCCESS : USN_NOT_SUPPORTED));
+    }
+    TRY(usn_read_file(volume, file, narrow, NULL, 0, NULL, 0, NULL, 0, output, 64).status == USN_NOT_SUPPORTED);
+    file.id = narrow;
+    TRY(usn_read_file(volume, file, wide, NULL, 0, NULL, 0, NULL, 0, output, 64).status == USN_NOT_SUPPORTED);
+    TRY(usn_read_file(volume, file, wide, NULL, 0, NULL, 0, NULL, 0, output, 63).status == USN_BUFFER_TOO_SMALL);
+    TRY(usn_read_file(volume, file, narrow, NULL, 0, NULL, 0, NULL, 0, output, 64).status == USN_SUCCESS);
+    TRY(memcmp(output + 8, expected, 8) == 0 && memcmp(output + 16, expected, 8) == 0);
+}
+
 static usn_volume volume_of(uint64_t capacity, uint64_t last)
 {
     usn_volume volume = { 0, 0, 0, 0, 1, USN_STATE_IDLE, 0, 0, last, capacity };
@@ -51,7 +89,7 @@ static void try_states_and_limits(void)
     static uint8_t ring[USN_CAPACITY_MIN], name[USN_NAME_MAX + 2], output[USN_READ_ROOM];
     static const uint8_t excluded[3][2] = { { 0, 0 }, { 0x2F, 0 }, { 0x5C, 0 } };
     usn_volume volume = volume_of(sizeof ring, 0);
-    usn_change change = { 5, 2, 0, 1, 0, 0, 0 };
+    usn_change change = { usn_id_of(5), usn_id_of(2), 0, 1, 0, 0, 0 };
     usn_read_input wanted = { 0, 1, 0, 7, 3, 3 };
     uint8_t input[USN_READ_INPUT_SIZE];
     uint64_t usn = 0;
@@ -80,7 +118,7 @@ static void try_images(void)
 {
     static uint8_t ring[USN_CAPACITY_MAX], image[USN_IMAGE_ROOM(sizeof ring)], name[USN_NAME_MAX];
     usn_volume volume = volume_of(sizeof ring, 0);
-    usn_change change = { 5, 2, 0, 1, 0, 0, 0 };
+    usn_change change = { usn_id_of(5), usn_id_of(2), 0, 1, 0, 0, 0 };
     usn_answer saved;
     uint64_t usn = 0;
     memset(name, 'a', sizeof name);
@@ -110,6 +148,7 @@ static void try_statuses(void)
         { USN_BUFFER_TOO_SMALL, 1 },
         { USN_UNKNOWN_REVISION, 1 },
         { USN_DISK_FULL, 1 },
+        { USN_NOT_SUPPORTED, 1 },
         { USN_FILE_CORRUPT_ERROR, 1 },
         { USN_NOT_A_REPARSE_POINT, 1 },
         { USN_VOLUME_NOT_UPGRADED, 1 },
@@ -125,7 +164,7 @@ static void try_regions(void)
 {
     uint8_t output[USN_REGIONS_ROOM];
     usn_volume volume = { 0, 1, 0, 0, 0, USN_STATE_IDLE, 0, 0, 0, 0 };
-    usn_file file = { 0, 0, 100, 60, 0, 0, { 0 } };
+    usn_file file = { usn_id_of(0), 0, 100, 60, 0, 0, { 0 } };
     usn_answer whole = usn_query_file_regions(volume, file, NULL, 0, output, USN_REGIONS_ROOM);
     usn_answer part = usn_query_file_regions(volume, file, NULL, 0, output, USN_REGIONS_ROOM - 1);
     usn_answer none = usn_query_file_regions(volume, file, NULL, 0, output, 39);
@@ -146,6 +185,7 @@ static void try_listing(void)
 int main(void)
 {
     try_functions();
+    try_ids();
     try_statuses();
     try_states_and_limits();
     try_images();

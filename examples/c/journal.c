@@ -28,7 +28,7 @@ static void post_changes(usn_volume *volume, uint8_t *ring)
         { 42, 0x00000100, "c\0o\0d\0e\0", 8 },
     };
     for (size_t i = 0; i < sizeof posts / sizeof *posts; i++) {
-        usn_change change = { .file = posts[i].file, .parent = 5, .reason = posts[i].reason };
+        usn_change change = { .file = usn_id_of(posts[i].file), .parent = usn_id_of(5), .reason = posts[i].reason };
         uint64_t usn = 0;
         expect("usn_post", usn_post(volume, ring, CAPACITY, change, (const uint8_t *)posts[i].name, posts[i].size, &usn));
         printf("posted file %" PRIu64 ", Usn %" PRIu64 "\n", posts[i].file, usn);
@@ -85,15 +85,15 @@ static void ask_file(const usn_volume *volume)
 {
     static const uint8_t pool[] = "t\0a\0b\0l\0e\0T\0", data[20] = { 0 };
     static const usn_link links[] = { { .place = 10, .length = 2 }, { .place = 0, .length = 10, .short_length = 10 } };
-    usn_file file = { .id = 41, .usn = 176, .eof = 100, .valid = 60, .tag = 0xA000000C };
+    usn_file file = { .id = usn_id_of(41), .usn = 176, .eof = 100, .valid = 60, .tag = 0xA000000C };
     uint8_t output[USN_READ_ROOM];
 
-    usn_answer answer = usn_read_file(*volume, file, 5, pool, 12, links, 2, NULL, 0, output, sizeof output);
+    usn_answer answer = usn_read_file(*volume, file, usn_id_of(5), pool, 12, links, 2, NULL, 0, output, sizeof output);
     expect("usn_read_file", answer.status);
     usn_record record = usn_read_record(output, answer.count, 0);
     expect("usn_read_record", record.status);
     printf("file %" PRIu64 " in %" PRIu64 ", Usn %" PRIu64 ", name of %" PRIu64 " bytes, first %c\n",
-           record.file, record.parent, record.usn, record.length, output[record.name]);
+           usn_get_number(record.file.bytes, 8), usn_get_number(record.parent.bytes, 8), record.usn, record.length, output[record.name]);
 
     ask_regions(volume, file);
 

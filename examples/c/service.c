@@ -40,7 +40,7 @@ static void want(int done, const char *what)
 static void post(uint64_t file, int times)
 {
     for (int i = 0; i < times; i++) {
-        usn_change change = { .file = file, .parent = 5, .reason = 0x80000002 };
+        usn_change change = { .file = usn_id_of(file), .parent = usn_id_of(5), .reason = 0x80000002 };
         uint64_t usn = 0;
         expect(usn_post(&volume, ring, sizeof ring, change, (const uint8_t *)"a", 2, &usn));
         want(save(folder), "save");
@@ -90,7 +90,7 @@ usn_answer ask(const uint8_t *input, size_t input_size, uint8_t *reply, size_t r
 
 void act_on(const usn_record *record, const uint8_t *name)
 {
-    printf("  file %" PRIu64 ", name %c, Usn %" PRIu64 "\n", record->file, name[0], record->usn);
+    printf("  file %" PRIu64 ", name %c, Usn %" PRIu64 "\n", usn_get_number(record->file.bytes, 8), name[0], record->usn);
 }
 
 void look_at_files(void)

@@ -78,12 +78,25 @@ struct Pair {
     usn: u64,
 }
 
-const CHANGE: (u64, u64, u64, u32, u32, u32, u32) =
-    (41, 5, 132_539_328_000_000_000, 0x100, 0, 0, 0x20);
+/// The ids of a file and its parent: such as version 2 can show, and wide ones.
+const NARROW: (u128, u128) = (41, 5);
+const WIDE: (u128, u128) = (41 << 64 | 41, 5 << 64 | 5);
 
-fn change() -> lanhduxe::Change {
-    let (file, parent, time, reason, source, security, attributes) = CHANGE;
-    lanhduxe::Change {
+const CHANGE: (u64, u32, u32, u32, u32) = (132_539_328_000_000_000, 0x100, 0, 0, 0x20);
+
+/// The same change for both sides.
+fn change((file, parent): (u128, u128)) -> (lanhduxe::Change, model::Change) {
+    let (time, reason, source, security, attributes) = CHANGE;
+    let library = lanhduxe::Change {
+        file: file.into(),
+        parent: parent.into(),
+        time,
+        reason,
+        source,
+        security,
+        attributes,
+    };
+    let model = model::Change {
         file,
         parent,
         time,
@@ -91,20 +104,8 @@ fn change() -> lanhduxe::Change {
         source,
         security,
         attributes,
-    }
-}
-
-fn model_change() -> model::Change {
-    let (file, parent, time, reason, source, security, attributes) = CHANGE;
-    model::Change {
-        file,
-        parent,
-        time,
-        reason,
-        source,
-        security,
-        attributes,
-    }
+    };
+    (library, model)
 }
 
 /// A name of `size` bytes: the letter a over and over, in units of 16 bits.
@@ -114,6 +115,11 @@ fn letters(size: usize) -> Vec<u8> {
 
 /// A ring of `capacity` bytes that has gone round more than once, full of records with names of `size` bytes.
 fn full(capacity: usize, size: usize) -> Pair {
+    full_of(capacity, size, NARROW)
+}
+
+/// The same with records of these ids.
+fn full_of(capacity: usize, size: usize, ids: (u128, u128)) -> Pair {
     let mut p = Pair {
         library: lanhduxe::Volume {
             journal: 1,
@@ -133,7 +139,7 @@ fn full(capacity: usize, size: usize) -> Pair {
     let name = letters(size);
     let posts = 5 * capacity / (2 * (76 + size)) + 2;
     for _ in 0..posts {
-        post_both(&mut p, &name);
+        post_both(&mut p, ids, &name);
     }
     assert!(
         p.rings[0] == p.rings[1]
@@ -143,14 +149,15 @@ fn full(capacity: usize, size: usize) -> Pair {
     p
 }
 
-fn post_both(p: &mut Pair, name: &[u8]) {
+fn post_both(p: &mut Pair, ids: (u128, u128), name: &[u8]) {
     let [a, b] = &mut p.rings;
+    let (c, d) = change(ids);
     assert_eq!(
-        p.library.post(a, &change(), name, &mut p.usn),
+        p.library.post(a, &c, name, &mut p.usn),
         lanhduxe::Status::Success
     );
     assert_eq!(
-        model::post(&mut p.model, b, &model_change(), name, &mut p.usn),
+        model::post(&mut p.model, b, &d, name, &mut p.usn),
         model::status::SUCCESS
     );
 }
@@ -159,7 +166,7 @@ fn posts(capacity: usize, size: usize) -> Timed {
     let mut p = full(capacity, size);
     let name = letters(size);
     let [a, b] = &mut p.rings;
-    let (c, d) = (change(), model_change());
+    let (c, d) = change(NARROW);
     let (mut u, mut w) = (0, 0);
     let (v, m) = (&mut p.library, &mut p.model);
     measure(
@@ -320,7 +327,7 @@ fn disk() -> Disk {
             ..Default::default()
         },
         file: lanhduxe::FileRecord {
-            id: 41,
+            id: lanhduxe::FileId::new(NARROW.0),
             usn: 1024,
             eof: 100,
             valid: 60,
@@ -329,7 +336,7 @@ fn disk() -> Disk {
             guid,
         },
         same: model::File {
-            id: 41,
+            id: NARROW.0,
             usn: 1024,
             eof: 100,
             valid: 60,
@@ -342,6 +349,7 @@ fn disk() -> Disk {
 
 fn file_reads() -> Timed {
     let d = disk();
+    let (parent, same_parent) = (lanhduxe::FileId::new(NARROW.1), NARROW.1);
     let pool = letters(64);
     let links = [
         lanhduxe::Link {
@@ -371,14 +379,14 @@ fn file_reads() -> Timed {
     let (mut a, mut b) = ([0; 600], [0; 600]);
     let x = d
         .library
-        .read_file(&d.file, 5, &pool, &links, &input, &mut a);
-    let y = model::read_file(&d.model, &d.same, 5, &pool, &same, &input, &mut b);
+        .read_file(&d.file, parent, &pool, &links, &input, &mut a);
+    let y = model::read_file(&d.model, &d.same, same_parent, &pool, &same, &input, &mut b);
     assert!((x.status.number(), x.count) == y && a == b && x.count == 120);
     measure(
         || {
             black_box(d.library.read_file(
                 black_box(&d.file),
-                5,
+                black_box(parent),
                 black_box(&pool),
                 black_box(&links),
                 black_box(&input),
@@ -389,7 +397,7 @@ fn file_reads() -> Timed {
             black_box(model::read_file(
                 &d.model,
                 black_box(&d.same),
-                5,
+                black_box(same_parent),
                 black_box(&pool),
                 black_box(&same),
                 black_box(&input),
@@ -474,6 +482,10 @@ fn main() {
     row(
         "read of a full ring into 64 KiB, names of 24 bytes, V3",
         &reads(&usual, !0, 3),
+    );
+    row(
+        "read of a full ring into 64 KiB, names of 2 bytes, wide ids, V3",
+        &reads(&full_of(65_536, 2, WIDE), !0, 3),
     );
     row(
         "read that selects nothing, names of 2 bytes",

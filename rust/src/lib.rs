@@ -13,18 +13,23 @@
 //! Positions, sizes and times are 64-bit patterns in `u64`; where a layout has a
 //! signed number, a pattern of 2^63 or above is negative.
 //!
+//! A file's id is a number of 128 bits, a [`FileId`]. A record of version 3 has
+//! all of it, one of version 2 the lower 64 bits: an id with more of them is
+//! wide, and version 2 cannot show it.
+//!
 //! # Example
 //!
 //! Create a journal, post one change, read it back and walk the reply:
 //!
 //! ```
-//! use lanhduxe::{walk_reply, Change, Status, Volume};
+//! use lanhduxe::{walk_reply, Change, FileId, Status, Volume};
 //!
 //! let mut ring = vec![0; 1024];
 //! let mut volume = Volume { journal: 1, capacity: 1024, ..Volume::default() };
 //! assert_eq!(volume.create(7), Status::Success);
 //!
-//! let change = Change { file: 5, parent: 2, reason: 0x100, ..Change::default() };
+//! let (file, parent) = (FileId::new(5), FileId::new(2));
+//! let change = Change { file, parent, reason: 0x100, ..Change::default() };
 //! let mut usn = 0;
 //! assert_eq!(volume.post(&mut ring, &change, b"a\0", &mut usn), Status::Success);
 //! assert_eq!(usn, 80);
@@ -51,16 +56,47 @@
 //! assert_eq!(volume.load_journal(&mut ring, &image[..saved.count], 8), Status::Success);
 //! assert_eq!((volume.first, volume.last), (0, 80));
 //! ```
+//!
+//! A file with a wide id is read in version 3. In version 2 a reply ends before
+//! its record, and is refused if that is the first one:
+//!
+//! ```
+//! use lanhduxe::{read_record, Change, FileId, Status, Volume};
+//!
+//! let mut ring = vec![0; 1024];
+//! let mut volume = Volume { journal: 1, capacity: 1024, ..Volume::default() };
+//! assert_eq!(volume.create(7), Status::Success);
+//!
+//! let file = FileId::new(1 << 64 | 5);
+//! assert!(file.is_wide());
+//! let change = Change { file, reason: 0x100, ..Change::default() };
+//! let mut usn = 0;
+//! assert_eq!(volume.post(&mut ring, &change, b"a\0", &mut usn), Status::Success);
+//!
+//! let mut input = [0; 48];
+//! input[8..12].copy_from_slice(&u32::MAX.to_le_bytes());
+//! input[32..40].copy_from_slice(&7u64.to_le_bytes());
+//! let mut output = [0; 600];
+//! input[42] = 2; // highest version
+//! let answer = volume.read_journal(&ring, &input, &mut output);
+//! assert_eq!((answer.status, answer.count), (Status::NotSupported, 0));
+//!
+//! input[42] = 3;
+//! let answer = volume.read_journal(&ring, &input, &mut output);
+//! assert_eq!(answer.status, Status::Success);
+//! let record = read_record(&output[..answer.count], 8).expect("a record");
+//! assert_eq!(record.file.number(), 1 << 64 | 5);
+//! ```
 
 #![warn(missing_docs)]
 
 use core::fmt;
-use core::mem::{offset_of, size_of};
+use core::mem::{align_of, offset_of, size_of};
 use core::ops::Range;
 
 /// The library's C interface.
 mod c {
-    use super::{Change, FileRecord, Link, Volume};
+    use super::{Change, FileId, FileRecord, Link, Volume};
 
     /// `usn_answer`
     #[repr(C)]
@@ -83,8 +119,8 @@ mod c {
     pub struct Record {
         pub status: u32,
         pub version: u32,
-        pub file: u64,
-        pub parent: u64,
+        pub file: FileId,
+        pub parent: FileId,
         pub usn: u64,
         pub time: u64,
         pub reason: u32,
@@ -136,7 +172,7 @@ mod c {
         pub fn usn_read_file(
             volume: Volume,
             file: FileRecord,
-            parent: u64,
+            parent: FileId,
             pool: *const u8,
             pool_size: usize,
             links: *const Link,
@@ -189,23 +225,27 @@ const _: () = {
     assert!(offset_of!(Volume, last) == 40);
     assert!(offset_of!(Volume, capacity) == 48);
 
-    assert!(size_of::<Change>() == 40);
-    assert!(offset_of!(Change, file) == 0);
-    assert!(offset_of!(Change, parent) == 8);
-    assert!(offset_of!(Change, time) == 16);
-    assert!(offset_of!(Change, reason) == 24);
-    assert!(offset_of!(Change, source) == 28);
-    assert!(offset_of!(Change, security) == 32);
-    assert!(offset_of!(Change, attributes) == 36);
+    assert!(size_of::<FileId>() == 16);
+    assert!(align_of::<FileId>() == 1);
+    assert!(offset_of!(FileId, bytes) == 0);
 
-    assert!(size_of::<FileRecord>() == 56);
+    assert!(size_of::<Change>() == 56);
+    assert!(offset_of!(Change, file) == 0);
+    assert!(offset_of!(Change, parent) == 16);
+    assert!(offset_of!(Change, time) == 32);
+    assert!(offset_of!(Change, reason) == 40);
+    assert!(offset_of!(Change, source) == 44);
+    assert!(offset_of!(Change, security) == 48);
+    assert!(offset_of!(Change, attributes) == 52);
+
+    assert!(size_of::<FileRecord>() == 64);
     assert!(offset_of!(FileRecord, id) == 0);
-    assert!(offset_of!(FileRecord, usn) == 8);
-    assert!(offset_of!(FileRecord, eof) == 16);
-    assert!(offset_of!(FileRecord, valid) == 24);
-    assert!(offset_of!(FileRecord, attributes) == 32);
-    assert!(offset_of!(FileRecord, tag) == 36);
-    assert!(offset_of!(FileRecord, guid) == 40);
+    assert!(offset_of!(FileRecord, usn) == 16);
+    assert!(offset_of!(FileRecord, eof) == 24);
+    assert!(offset_of!(FileRecord, valid) == 32);
+    assert!(offset_of!(FileRecord, attributes) == 40);
+    assert!(offset_of!(FileRecord, tag) == 44);
+    assert!(offset_of!(FileRecord, guid) == 48);
 
     assert!(size_of::<Link>() == 12);
     assert!(offset_of!(Link, place) == 0);
@@ -222,20 +262,20 @@ const _: () = {
     assert!(offset_of!(c::Walk, count) == 16);
     assert!(offset_of!(c::Walk, bad) == 24);
 
-    assert!(size_of::<c::Record>() == 80);
+    assert!(size_of::<c::Record>() == 96);
     assert!(offset_of!(c::Record, status) == 0);
     assert!(offset_of!(c::Record, version) == 4);
     assert!(offset_of!(c::Record, file) == 8);
-    assert!(offset_of!(c::Record, parent) == 16);
-    assert!(offset_of!(c::Record, usn) == 24);
-    assert!(offset_of!(c::Record, time) == 32);
-    assert!(offset_of!(c::Record, reason) == 40);
-    assert!(offset_of!(c::Record, source) == 44);
-    assert!(offset_of!(c::Record, security) == 48);
-    assert!(offset_of!(c::Record, attributes) == 52);
-    assert!(offset_of!(c::Record, name) == 56);
-    assert!(offset_of!(c::Record, length) == 64);
-    assert!(offset_of!(c::Record, next) == 72);
+    assert!(offset_of!(c::Record, parent) == 24);
+    assert!(offset_of!(c::Record, usn) == 40);
+    assert!(offset_of!(c::Record, time) == 48);
+    assert!(offset_of!(c::Record, reason) == 56);
+    assert!(offset_of!(c::Record, source) == 60);
+    assert!(offset_of!(c::Record, security) == 64);
+    assert!(offset_of!(c::Record, attributes) == 68);
+    assert!(offset_of!(c::Record, name) == 72);
+    assert!(offset_of!(c::Record, length) == 80);
+    assert!(offset_of!(c::Record, next) == 88);
 };
 
 /// The status of a call.
@@ -258,6 +298,8 @@ pub enum Status {
     /// `STATUS_DISK_FULL`: no position is left for the record, or the ring has
     /// no room for the image's records.
     DiskFull = 0xC000_007F,
+    /// `STATUS_NOT_SUPPORTED`: a wide id, which version 2 cannot show.
+    NotSupported = 0xC000_00BB,
     /// `STATUS_FILE_CORRUPT_ERROR`: a bad file record, volume record, ring or
     /// image.
     FileCorruptError = 0xC000_0102,
@@ -275,7 +317,7 @@ pub enum Status {
 
 impl Status {
     /// All statuses, by rising number.
-    pub const ALL: [Status; 13] = [
+    pub const ALL: [Status; 14] = [
         Status::Success,
         Status::BufferOverflow,
         Status::InvalidParameter,
@@ -283,6 +325,7 @@ impl Status {
         Status::BufferTooSmall,
         Status::UnknownRevision,
         Status::DiskFull,
+        Status::NotSupported,
         Status::FileCorruptError,
         Status::NotAReparsePoint,
         Status::VolumeNotUpgraded,
@@ -325,6 +368,7 @@ impl fmt::Display for Status {
             Status::BufferTooSmall => "STATUS_BUFFER_TOO_SMALL",
             Status::UnknownRevision => "STATUS_UNKNOWN_REVISION",
             Status::DiskFull => "STATUS_DISK_FULL",
+            Status::NotSupported => "STATUS_NOT_SUPPORTED",
             Status::FileCorruptError => "STATUS_FILE_CORRUPT_ERROR",
             Status::NotAReparsePoint => "STATUS_NOT_A_REPARSE_POINT",
             Status::VolumeNotUpgraded => "STATUS_VOLUME_NOT_UPGRADED",
@@ -363,14 +407,69 @@ pub struct Volume {
     pub capacity: u64,
 }
 
+/// A file's id: a number of 128 bits, as its sixteen bytes.
+///
+/// ```
+/// use lanhduxe::FileId;
+///
+/// let id = FileId::new(0x0102);
+/// assert_eq!(id.bytes, [2, 1, 0, 0, 0, 0, 0, 0, 0, 0, 0, 0, 0, 0, 0, 0]);
+/// assert_eq!(id, FileId::from(0x0102u64));
+/// assert!(!id.is_wide() && FileId::new(1 << 64).is_wide());
+/// ```
+#[derive(Clone, Copy, Debug, Default, PartialEq, Eq, Hash)]
+#[repr(C)]
+pub struct FileId {
+    /// The bytes, the lowest first.
+    pub bytes: [u8; 16],
+}
+
+impl FileId {
+    /// The id with a number.
+    #[inline]
+    pub const fn new(number: u128) -> FileId {
+        FileId {
+            bytes: number.to_le_bytes(),
+        }
+    }
+
+    /// The id as a number.
+    #[inline]
+    pub const fn number(self) -> u128 {
+        u128::from_le_bytes(self.bytes)
+    }
+
+    /// Whether one of the upper eight bytes is not 0. Version 2 of a record
+    /// cannot show such an id.
+    #[inline]
+    pub const fn is_wide(self) -> bool {
+        self.number() > u64::MAX as u128
+    }
+}
+
+impl From<u128> for FileId {
+    #[inline]
+    fn from(number: u128) -> FileId {
+        FileId::new(number)
+    }
+}
+
+/// An id that is not wide.
+impl From<u64> for FileId {
+    #[inline]
+    fn from(number: u64) -> FileId {
+        FileId::new(number.into())
+    }
+}
+
 /// What a post says about a change, apart from the name.
 #[derive(Clone, Copy, Debug, Default, PartialEq, Eq)]
 #[repr(C)]
 pub struct Change {
     /// The file's id.
-    pub file: u64,
+    pub file: FileId,
     /// The id of the folder that holds the name.
-    pub parent: u64,
+    pub parent: FileId,
     /// The time of the change.
     pub time: u64,
     /// The reasons, one bit each. A post with reason 0 is skipped.
@@ -388,7 +487,7 @@ pub struct Change {
 #[repr(C)]
 pub struct FileRecord {
     /// The file's id.
-    pub id: u64,
+    pub id: FileId,
     /// The Usn of the file's last change; below 2^63.
     pub usn: u64,
     /// The file's length; below 2^63.
@@ -520,7 +619,9 @@ impl Volume {
     /// Timeout and BytesToWaitFor `u64` (both ignored), the journal's id `u64`
     /// and, from 48 bytes on, the lowest and highest version `u16`. The reply is
     /// the position to go on with, `u64`, and the selected records behind it, up
-    /// to the first that does not fit.
+    /// to the first that does not fit or that version 2 cannot show, since its
+    /// file or parent has a wide id. A read in version 3 from that position on
+    /// shows it.
     ///
     /// Refusals, in order: [`Status::InvalidDeviceRequest`] without a journal on
     /// the volume; [`Status::JournalDeleteInProgress`];
@@ -530,8 +631,8 @@ impl Volume {
     /// [`Status::FileCorruptError`] as for a post;
     /// [`Status::JournalEntryDeleted`] if StartUsn is not 0 and below `first`;
     /// [`Status::InvalidParameter`] if it is above `last` or off a record
-    /// boundary; [`Status::BufferTooSmall`] if the first selected record does
-    /// not fit.
+    /// boundary; [`Status::NotSupported`] if version 2 cannot show the first
+    /// selected record; [`Status::BufferTooSmall`] if that record does not fit.
     #[inline]
     pub fn read_journal(&self, ring: &[u8], input: &[u8], output: &mut [u8]) -> Answer {
         // SAFETY: each pointer and length comes from a live borrow; that of the
@@ -562,7 +663,8 @@ impl Volume {
     /// Refusals, in order: [`Status::InvalidDeviceRequest`] without a journal on
     /// the volume; [`Status::JournalDeleteInProgress`];
     /// [`Status::JournalNotActive`]; [`Status::FileCorruptError`] as for a post;
-    /// [`Status::BufferTooSmall`] if the output is shorter than the image.
+    /// [`Status::NotSupported`] while a record is kept whose file or parent has a
+    /// wide id; [`Status::BufferTooSmall`] if the output is shorter than the image.
     #[inline]
     pub fn save_journal(&self, ring: &[u8], output: &mut [u8]) -> Answer {
         // SAFETY: as in `read_journal`.
@@ -628,12 +730,13 @@ impl Volume {
     /// [`Status::FileCorruptError`] for a negative Usn or a bad link anywhere in
     /// the table; [`Status::InvalidParameter`] for the versions;
     /// [`Status::BufferTooSmall`] below 64 bytes of output for version 2 or 80
-    /// for version 3, then below the record's length.
+    /// for version 3; [`Status::NotSupported`] for version 2 if the file's id or
+    /// `parent` is wide; [`Status::BufferTooSmall`] below the record's length.
     #[inline]
     pub fn read_file(
         &self,
         file: &FileRecord,
-        parent: u64,
+        parent: FileId,
         pool: &[u8],
         links: &[Link],
         input: &[u8],
@@ -727,10 +830,10 @@ impl Volume {
 pub struct Record {
     /// The version, 2 or 3.
     pub version: u32,
-    /// The file's id.
-    pub file: u64,
-    /// The parent's id.
-    pub parent: u64,
+    /// The file's id; in version 2 never a wide one.
+    pub file: FileId,
+    /// The parent's id; in version 2 never a wide one.
+    pub parent: FileId,
     /// The Usn; below 2^63.
     pub usn: u64,
     /// The time of the change.
@@ -777,8 +880,10 @@ pub fn read_record(bytes: &[u8], at: usize) -> Option<Record> {
             })
         }
         Status::InvalidParameter => {
+            let none = FileId::default();
             assert!(
-                (record.version, record.name, record.length, record.next) == (0, 0, 0, 0),
+                (record.file, record.parent) == (none, none)
+                    && (record.version, record.name, record.length, record.next) == (0, 0, 0, 0),
                 "the library gave fields for a record that it refused"
             );
             None

@@ -4,7 +4,7 @@ mod common;
 
 use common::{expected, lay_out, region_input};
 use lanhduxe::{list_reply, read_record, walk_reply};
-use lanhduxe::{Answer, Change, FileRecord, Link, Status, Volume};
+use lanhduxe::{Answer, Change, FileId, FileRecord, Link, Status, Volume};
 
 /// A volume that supports everything, with an idle journal.
 fn volume(capacity: u64) -> Volume {
@@ -35,6 +35,9 @@ fn word(bytes: &[u8], at: usize) -> u64 {
     u64::from_le_bytes(bytes[at..at + 8].try_into().expect("eight bytes"))
 }
 
+/// The parent in every file read and post.
+const PARENT: FileId = FileId::new(5);
+
 fn versions(lowest: u16, highest: u16) -> [u8; 4] {
     let (low, high) = (lowest.to_le_bytes(), highest.to_le_bytes());
     [low[0], low[1], high[0], high[1]]
@@ -50,6 +53,7 @@ fn the_statuses_have_their_numbers_and_names() {
         (0xC000_0023, "STATUS_BUFFER_TOO_SMALL"),
         (0xC000_0058, "STATUS_UNKNOWN_REVISION"),
         (0xC000_007F, "STATUS_DISK_FULL"),
+        (0xC000_00BB, "STATUS_NOT_SUPPORTED"),
         (0xC000_0102, "STATUS_FILE_CORRUPT_ERROR"),
         (0xC000_0275, "STATUS_NOT_A_REPARSE_POINT"),
         (0xC000_029C, "STATUS_VOLUME_NOT_UPGRADED"),
@@ -57,6 +61,7 @@ fn the_statuses_have_their_numbers_and_names() {
         (0xC000_02B8, "STATUS_JOURNAL_NOT_ACTIVE"),
         (0xC000_02CF, "STATUS_JOURNAL_ENTRY_DELETED"),
     ];
+    assert_eq!(Status::ALL.len(), table.len());
     for (status, (number, name)) in Status::ALL.iter().zip(table) {
         assert_eq!(status.number(), number);
         assert_eq!(status.to_string(), name);
@@ -99,7 +104,7 @@ fn record_lengths() {
             let mut output = [0xEE; 600];
             let answer = volume(1024).read_file(
                 &FileRecord::default(),
-                5,
+                PARENT,
                 &pool,
                 &links,
                 &versions(2, highest),
@@ -117,8 +122,14 @@ fn file_read_versions() {
     let read = |lowest, highest| {
         let mut output = [0; 80];
         let input = versions(lowest, highest);
-        let answer =
-            volume(1024).read_file(&FileRecord::default(), 5, &[], &[], &input, &mut output);
+        let answer = volume(1024).read_file(
+            &FileRecord::default(),
+            PARENT,
+            &[],
+            &[],
+            &input,
+            &mut output,
+        );
         (answer.status, output[4])
     };
     for (lowest, highest) in [(3, 2), (4, 9), (0, 1)] {
@@ -131,25 +142,25 @@ fn file_read_versions() {
 #[test]
 fn file_read_without_links() {
     let file = FileRecord {
-        id: 9,
+        id: FileId::new(9),
         usn: 80,
         attributes: 0x20,
         ..FileRecord::default()
     };
     let change = Change {
-        file: 9,
-        parent: 5,
+        file: FileId::new(9),
+        parent: PARENT,
         attributes: 0x20,
         ..Change::default()
     };
     let mut output = [0xEE; 64];
     assert_eq!(
-        volume(1024).read_file(&file, 5, &[], &[], &[], &mut output),
+        volume(1024).read_file(&file, PARENT, &[], &[], &[], &mut output),
         success(64)
     );
     assert_eq!(output[..], lay_out(2, &change, 80, &[]));
     assert_eq!(
-        volume(1024).read_file(&file, 5, &[], &[], &[], &mut output[..63]),
+        volume(1024).read_file(&file, PARENT, &[], &[], &[], &mut output[..63]),
         refused(Status::BufferTooSmall)
     );
 }
@@ -164,11 +175,17 @@ fn file_read_takes_the_name_of_the_first_link_with_a_short_name() {
     };
     let name = |links: &[Link]| {
         let mut output = [0; 64];
-        let answer =
-            volume(1024).read_file(&FileRecord::default(), 5, &pool, links, &[], &mut output);
+        let answer = volume(1024).read_file(
+            &FileRecord::default(),
+            PARENT,
+            &pool,
+            links,
+            &[],
+            &mut output,
+        );
         assert_eq!(answer, success(64));
         let record = read_record(&output, 0).expect("a record");
-        assert_eq!(record.parent, 5);
+        assert_eq!(record.parent, PARENT);
         output[record.name].to_vec()
     };
     assert_eq!(
@@ -290,10 +307,10 @@ fn thirteen() -> (Volume, Vec<u8>) {
     let mut volume = volume(1024);
     let mut ring = vec![0; 1024];
     assert_eq!(volume.create(7), Status::Success);
-    for number in 1..=13 {
+    for number in 1..=13u64 {
         let change = Change {
-            file: number,
-            parent: 5,
+            file: number.into(),
+            parent: PARENT,
             reason: 0x100,
             ..Change::default()
         };
@@ -350,8 +367,10 @@ fn journal_reads_go_on_where_the_output_ended() {
     assert_eq!((walk.position, walk.count), (240, 2));
     let first = read_record(&output, 8).expect("a record");
     let second = read_record(&output, first.next).expect("a record");
-    assert_eq!((first.version, first.file, first.usn), (2, 2, 160));
-    assert_eq!((second.version, second.file, second.usn), (2, 3, 240));
+    let ids = [first.file, second.file].map(FileId::number);
+    assert_eq!(ids, [2, 3]);
+    assert_eq!((first.version, first.usn), (2, 160));
+    assert_eq!((second.version, second.usn), (2, 240));
     assert_eq!((second.attributes, second.next), (0x80, 136));
 }
 
@@ -411,8 +430,8 @@ fn a_journal_is_saved_and_loaded() {
     let mut ring = vec![0; 1024];
     assert_eq!(saved.create(7), Status::Success);
     let change = Change {
-        file: 41,
-        parent: 5,
+        file: FileId::new(41),
+        parent: PARENT,
         reason: 0x100,
         ..Change::default()
     };

@@ -31,7 +31,7 @@ fn volume(rng: &mut Rng) -> Volume {
 fn file(rng: &mut Rng) -> FileRecord {
     let eof = rng.draw() >> rng.between(1, 63);
     let mut file = FileRecord {
-        id: rng.long(),
+        id: common::ids(rng, 30).0,
         usn: rng.long() & (NEGATIVE - 1),
         eof,
         valid: rng.between(0, eof),
@@ -136,7 +136,7 @@ fn file_reads_agree_with_the_model() {
             file.eof = rng.long();
             file.valid = rng.long();
         }
-        let parent = rng.long();
+        let (_, parent) = common::ids(&mut rng, 30);
         let pool_length = match rng.below(5) {
             0 => rng.between(0, 3),
             1 => rng.between(508, 514),
@@ -184,7 +184,7 @@ fn file_reads_agree_with_the_model() {
         let (status, count) = model::read_file(
             &model_volume(&volume),
             &model_file(&file),
-            parent,
+            parent.number(),
             &pool.before[..pool.length],
             &model_links(&links),
             &input.before[..input.length],
@@ -203,7 +203,7 @@ fn file_reads_agree_with_the_model() {
             || {
                 format!(
                     "library {answer:?}, model {status:#x} {count}\n{volume:?}\n{file:?}\n\
-                     parent {parent}\nlinks {links_before:?}\npool {:?}\ninput {:?}\n\
+                     parent {parent:?}\nlinks {links_before:?}\npool {:?}\ninput {:?}\n\
                      output before {:?} (lent {})\nlibrary's {:?}\nmodel's {:?}",
                     Hex(&pool.before),
                     Hex(&input.before[..input.length]),

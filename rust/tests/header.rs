@@ -10,7 +10,7 @@ const WRAPPER: &str = "rust/src/lib.rs";
 const LIBRARY: &str = "crates/lanhduxe/src/lib.rt";
 
 /// `LANHDUXE_VERSION`, and the number that `fingerprint` makes of the structs and calls of that version.
-const VERSION: (&str, u64) = ("5", 0x70D6_9326_4723_645A);
+const VERSION: (&str, u64) = ("6", 0xF1A6_5B41_AA48_A604);
 
 /// The calls of the interface.
 const CALLS: usize = 13;
@@ -61,6 +61,12 @@ const STRUCTS: [Shared; 7] = [
     shared(LIBRARY, "RecordReport", "Record", "usn_record"),
     shared(LIBRARY, "WalkReport", "Walk", "usn_walk"),
 ];
+
+/// The header's id. In the library `FileId` is an array of sixteen bytes, which lies in a struct as the header's id does; where it is a
+/// parameter, the struct `Id` holds it. In the wrapper `FileId` is that struct.
+const ID: &str = "usn_id";
+const ID_ARRAY: (&str, &str) = ("crates/file_ids/src/lib.rt", "pub type FileId = [u8; 16];");
+const ID_STRUCT: (&str, &str) = ("crates/call_cores/src/lib.rt", "Id");
 
 /// The structs that only the header has, for its own functions.
 const HEADERS_OWN: [&str; 1] = ["usn_read_input"];
@@ -134,6 +140,7 @@ fn c_type(kind: &str) -> String {
     match kind {
         "u8" | "u16" | "u32" | "u64" => format!("uint{}_t", &kind[1..]),
         "usize" => "size_t".to_string(),
+        "FileId" | "Id" => ID.to_string(),
         _ => STRUCTS
             .iter()
             .find(|shared| [shared.library, shared.wrapper].contains(&kind))
@@ -266,19 +273,30 @@ fn assert_same(library: &[Named], header: &[Named], what: &str) {
     );
 }
 
+/// The header's structs.
+fn header_structs() -> impl Iterator<Item = &'static str> {
+    let shared = STRUCTS.iter().map(|shared| shared.header);
+    shared.chain([ID]).chain(HEADERS_OWN)
+}
+
+/// The names of fields or parameters.
+fn names(fields: &[Named]) -> Vec<&String> {
+    fields.iter().map(|(name, _)| name).collect()
+}
+
+/// The types of fields or parameters.
+fn types(fields: &[Named]) -> Vec<&String> {
+    fields.iter().map(|(_, kind)| kind).collect()
+}
+
 /// A number for the header's structs and calls, which any change of a field, of a type or of an order changes.
 fn fingerprint(header: &str) -> u64 {
     let mut text = String::new();
-    for name in STRUCTS
-        .iter()
-        .map(|shared| shared.header)
-        .chain(HEADERS_OWN)
-    {
+    for name in header_structs() {
         text += &format!("{name} {:?}\n", c_fields(header, name));
     }
     for (name, (parameters, result)) in c_calls(header) {
-        let kinds: Vec<&String> = parameters.iter().map(|(_, kind)| kind).collect();
-        text += &format!("{name} {kinds:?} {result}\n");
+        text += &format!("{name} {:?} {result}\n", types(&parameters));
     }
     text.bytes().fold(0xCBF2_9CE4_8422_2325, |hash, byte| {
         (hash ^ byte as u64).wrapping_mul(0x100_0000_01B3)
@@ -293,18 +311,19 @@ fn the_three_have_the_same_structs() {
         assert!(declared.len() > 1, "{} has no fields", shared.header);
         let library = fields(&source(shared.path), shared.library);
         assert_same(&library, &declared, shared.header);
-        assert_eq!(
-            fields(&wrapper, shared.wrapper),
-            library,
-            "{}",
-            shared.wrapper
-        );
+        // the wrapper has the library's names and the header's types
+        let ours = fields(&wrapper, shared.wrapper);
+        assert_eq!(names(&ours), names(&library), "{}", shared.wrapper);
+        assert_eq!(types(&ours), types(&declared), "{}", shared.wrapper);
     }
-    let mut known: Vec<&str> = STRUCTS
-        .iter()
-        .map(|shared| shared.header)
-        .chain(HEADERS_OWN)
-        .collect();
+    let bytes = [("bytes".to_string(), "uint8_t[16]".to_string())];
+    assert_eq!(c_fields(&header, ID), bytes);
+    assert_eq!(fields(&wrapper, "FileId"), bytes);
+    assert!(source(ID_ARRAY.0).contains(ID_ARRAY.1));
+    let array = [("bytes".to_string(), ID.to_string())];
+    assert_eq!(fields(&source(ID_STRUCT.0), ID_STRUCT.1), array);
+
+    let mut known: Vec<&str> = header_structs().collect();
     let mut declared: Vec<&str> = header
         .split("typedef struct ")
         .skip(1)

@@ -8,7 +8,7 @@ use common::{change, change_of, check, expected, image, lay_out, CHANGE};
 use common::{model_volume, record_length, seal};
 use common::{Counts, Hex, Lent, Rng, NEGATIVE, TRAILER};
 use lanhduxe::Status::{self, *};
-use lanhduxe::{read_record, Change, Record, Volume};
+use lanhduxe::{read_record, Change, FileId, Record, Volume};
 
 /// How often each of the two is called at random, at the least.
 const CALLS: u64 = 100_000;
@@ -227,13 +227,32 @@ impl Run {
         }
     }
 
-    /// A journal with something wrong in the volume record or the ring.
+    /// The journal after a post with a wide id, and some more posts, which may drop
+    /// that record again.
+    fn wide_journal(&mut self, journal: &Journal) -> Journal {
+        let mut wide = journal.clone();
+        let change = Change {
+            reason: 1,
+            ..common::any_change(&mut self.rng, 100)
+        };
+        wide.volume.post(&mut wide.ring, &change, b"a\0", &mut 0);
+        let most = match self.rng.below(4) {
+            0 => 0,
+            1 => wide.volume.capacity + self.rng.below(1000),
+            _ => self.rng.below(1000),
+        };
+        self.post(&mut wide, most);
+        wide
+    }
+
+    /// A journal with something wrong in the volume record or the ring, or with an
+    /// upper byte of an id that is not 0.
     fn damaged_journal(&mut self, journal: &Journal) -> Journal {
         let mut damaged = journal.clone();
         let rng = &mut self.rng;
         let volume = &mut damaged.volume;
         let (first, last, capacity) = (volume.first, volume.last, volume.capacity);
-        match rng.below(13) {
+        match rng.below(15) {
             0 => volume.journal = 0,
             1..=2 => volume.state = rng.pick(&[0, 2, 2, 3, 0x101, u32::MAX]),
             3 => volume.first = rng.pick(&[first + 8, first.wrapping_sub(8), first ^ 4, last + 8]),
@@ -255,6 +274,11 @@ impl Run {
                     ring[place(at)] = byte;
                 }
             }
+            // An upper byte of an id of the oldest record, which stays right.
+            8..=9 if last > first => {
+                let at = rng.pick(&[16, 32]) + rng.below(8);
+                damaged.ring[((first + at) % capacity) as usize] = 1 << rng.below(8);
+            }
             _ => {
                 let span = (last - first).max(1);
                 let place = ((first + rng.below(span)) % capacity) as usize;
@@ -264,8 +288,8 @@ impl Run {
         damaged
     }
 
-    /// Saves the journal, or a damaged one, with an output around the image's
-    /// length. Gives the image of the journal.
+    /// Saves the journal, one with a wide id or a damaged one, with an output
+    /// around the image's length. Gives the image of the journal.
     fn random_save(&mut self, journal: &Journal) -> Vec<u8> {
         let room = journal.ring.len() + TRAILER;
         let (status, image) = self.save(journal, room);
@@ -277,11 +301,18 @@ impl Run {
                 2..=4 => self.rng.around(image.len() as u64) as usize,
                 _ => room,
             };
-            if self.rng.percent(50) {
-                let damaged = self.damaged_journal(journal);
-                self.save(&damaged, room);
-            } else {
-                self.save(journal, room);
+            match self.rng.below(6) {
+                0..=2 => {
+                    let damaged = self.damaged_journal(journal);
+                    self.save(&damaged, room);
+                }
+                3 => {
+                    let wide = self.wide_journal(journal);
+                    self.save(&wide, room);
+                }
+                _ => {
+                    self.save(journal, room);
+                }
             }
         }
         image
@@ -568,8 +599,8 @@ fn trailer_in_a_record() -> (Vec<u8>, usize) {
 /// with a record whose words are 1, and with one that holds a trailer.
 fn samples(rng: &mut Rng) -> Vec<Vec<u8>> {
     let ones = Change {
-        file: 0x1_0000_0001,
-        parent: 0x1_0000_0001,
+        file: FileId::new(0x1_0000_0001),
+        parent: FileId::new(0x1_0000_0001),
         time: 0x1_0000_0001,
         reason: 1,
         source: 1,
@@ -861,17 +892,20 @@ fn the_first_status_of_a_load_is_given() {
 
 #[test]
 fn the_first_status_of_a_save_is_given() {
-    let faults: [Fault<(Journal, usize)>; 12] = [
+    let faults: [Fault<(Journal, usize)>; 14] = [
         (InvalidDeviceRequest, |save| save.0.volume.journal = 0),
         (JournalDeleteInProgress, |save| save.0.volume.state = 2),
         (JournalNotActive, |save| save.0.volume.state = 0),
         (JournalNotActive, |save| save.0.volume.state = 0x101),
-        (FileCorruptError, |save| save.0.ring[100] ^= 1),
+        (FileCorruptError, |save| save.0.ring[120] ^= 1),
         (FileCorruptError, |save| save.0.volume.first += 8),
         (FileCorruptError, |save| save.0.volume.last += 8),
         (FileCorruptError, |save| save.0.volume.last = NEGATIVE),
         (FileCorruptError, |save| save.0.volume.capacity = 1016),
         (FileCorruptError, |save| save.0.ring.push(0)),
+        // an upper byte of the oldest record's file id, of the next one's parent id
+        (NotSupported, |save| save.0.ring[23] = 1),
+        (NotSupported, |save| save.0.ring[80 + 32] = 0x80),
         (BufferTooSmall, |save| save.1 = save.1.saturating_sub(1)),
         (BufferTooSmall, |save| save.1 = 0),
     ];

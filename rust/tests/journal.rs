@@ -18,6 +18,7 @@ struct Kept {
     end: u64,
     reason: u32,
     name: usize,
+    wide: bool,
 }
 
 /// A volume, its ring and the records in it. Library and model have a volume
@@ -30,6 +31,8 @@ struct Journal {
     model_ring: Vec<u8>,
     lent: usize,
     kept: VecDeque<Kept>,
+    /// How many posts out of a hundred have a wide id.
+    wide: u64,
 }
 
 /// The test's state over all lists.
@@ -37,6 +40,8 @@ struct Run {
     rng: Rng,
     counts: Counts,
     index: u64,
+    /// Replies that ended before a record with a wide id.
+    stopped: u64,
 }
 
 impl Journal {
@@ -81,6 +86,7 @@ impl Journal {
             ring,
             lent,
             kept: VecDeque::new(),
+            wide: common::share_of_wide(rng),
         }
     }
 
@@ -177,7 +183,7 @@ impl Run {
     }
 
     fn post(&mut self, journal: &mut Journal) {
-        let change = common::change(&mut self.rng);
+        let change = common::any_change(&mut self.rng, journal.wide);
         let length = common::name_length(&mut self.rng, 20);
         let name = common::any_name(&mut self.rng, length, 20);
         let name = Lent::holding(&mut self.rng, &name);
@@ -232,6 +238,7 @@ impl Run {
                 end: usn,
                 reason: change.reason,
                 name: length,
+                wide: common::is_wide(&change),
             });
             while journal
                 .kept
@@ -341,6 +348,13 @@ impl Run {
             output.for_model(),
         );
         self.counts.add(answer.status);
+        if answer.count > 8 && input.version() == Some(2) {
+            let mut position = [0; 8];
+            position.copy_from_slice(&output.library[..8]);
+            let position = u64::from_le_bytes(position);
+            let next = journal.kept.iter().find(|kept| kept.end > position);
+            self.stopped += u64::from(next.is_some_and(|kept| kept.wide));
+        }
         check(
             answer.status.number() == status
                 && answer.count == count
@@ -562,6 +576,7 @@ fn random_lists_agree_with_the_model() {
         rng: Rng::new(TEST),
         counts: Counts::new(TEST),
         index: 0,
+        stopped: 0,
     };
     let mut lists = 0;
     let mut damages = 0;
@@ -588,6 +603,11 @@ fn random_lists_agree_with_the_model() {
         }
         lists += 1;
     }
-    println!("{TEST}: {lists} lists, {damages} damaged rings or volume records");
+    println!(
+        "{TEST}: {lists} lists, {damages} damaged rings or volume records, {} replies that ended \
+         before a wide id",
+        run.stopped
+    );
+    assert!(run.stopped > 500);
     run.counts.finish(&expected::JOURNAL, 200_000);
 }

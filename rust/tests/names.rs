@@ -10,7 +10,7 @@ use common::{image, lay_out, plant, record_length, seal};
 use common::{ReadInput, Rng, ALIKE, CHANGE, EXCLUDED, GUARD, TRAILER};
 use lanhduxe::Status::{self, *};
 use lanhduxe::{list_reply, read_record, walk_reply};
-use lanhduxe::{Answer, Change, FileRecord, Link, Volume};
+use lanhduxe::{Answer, Change, FileId, FileRecord, Link, Volume};
 
 /// Lengths of names: around every width in which units might be judged together.
 /// A name of 92 bytes has 0x5C in the field before it, where its length stands.
@@ -425,18 +425,21 @@ fn with_short(link: Link) -> Link {
     Link { short: 24, ..link }
 }
 
+/// The parent in every file read.
+const PARENT: FileId = FileId::new(5);
+
 /// Reads a file's record in version 2, without an input.
 fn read_file(pool: &[u8], links: &[Link]) -> (Answer, Vec<u8>) {
     let mut output = vec![0xCC; 600 + GUARD];
     let file = FileRecord::default();
-    let answer = idle(0).read_file(&file, 5, pool, links, &[], &mut output[..600]);
+    let answer = idle(0).read_file(&file, PARENT, pool, links, &[], &mut output[..600]);
     (answer, given(output, answer))
 }
 
 /// The record of a file with this name.
 fn file_record(name: &[u8]) -> (Answer, Vec<u8>) {
     let change = Change {
-        parent: 5,
+        parent: PARENT,
         ..Change::default()
     };
     let record = lay_out(2, &change, 0, name);
@@ -505,7 +508,7 @@ fn a_file_read_gives_its_first_status() {
     let links = [link(0, 2)];
     let read = |volume: Volume, input: &[u8]| {
         let file = FileRecord::default();
-        volume.read_file(&file, 5, b"/\0", &links, input, &mut [])
+        volume.read_file(&file, PARENT, b"/\0", &links, input, &mut [])
     };
     let unsupported = Volume { usn: 0, ..idle(0) };
     assert_eq!(

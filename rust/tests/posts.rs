@@ -12,9 +12,9 @@ fn name_lengths() -> impl Iterator<Item = usize> {
     (2..=510).step_by(2)
 }
 
-/// A change with a reason, so that its post is not skipped.
+/// A change with a reason, so that its post is not skipped, and with any ids.
 fn change(rng: &mut Rng) -> Change {
-    let change = common::change(rng);
+    let change = common::any_change(rng, 30);
     Change {
         reason: change.reason.max(1),
         ..change

@@ -3,13 +3,16 @@
 //! Where a list ends with a save and the next one begins with a load, they go on
 //! from where they stand, under the new id.
 //!
+//! They read in both versions, and records have wide ids: in version 2 a reader
+//! comes to the first such record that it selects, and no further.
+//!
 //! Nothing here looks into the ring. A history is kept from the calls' arguments
 //! alone, and the records that readers were handed are compared with the history,
 //! laid out anew.
 
 mod common;
 
-use common::{check, expected, holds_excluded, lay_out, record_length, selects};
+use common::{check, expected, holds_excluded, is_wide, lay_out, record_length, selects};
 use common::{Counts, Hex, ReadInput, Rng, GUARD, NEGATIVE, TRAILER};
 use lanhduxe::{Change, Status, Volume};
 
@@ -21,6 +24,13 @@ struct Posted {
     usn: u64,
     change: Change,
     name: Vec<u8>,
+}
+
+impl Posted {
+    /// Whether version 2 cannot show it.
+    fn is_wide(&self) -> bool {
+        is_wide(&self.change)
+    }
 }
 
 /// The history of one list, from its creation on. A load goes on with the one
@@ -66,7 +76,12 @@ impl History {
         }
     }
 
-    /// The image of what is kept.
+    /// Whether a record is kept that no image can hold.
+    fn keeps_wide(&self) -> bool {
+        self.posted[self.dropped..].iter().any(Posted::is_wide)
+    }
+
+    /// The image of what is kept, none of it with a wide id.
     fn image(&self) -> Vec<u8> {
         let mut body = Vec::new();
         for record in &self.posted[self.dropped..] {
@@ -124,6 +139,22 @@ impl History {
             .iter()
             .filter(move |record| selects(mask, only_on_close, record.change.reason))
     }
+
+    /// The records that are due to a reader from its position on.
+    fn due(&self, reader: &Reader) -> impl Iterator<Item = &Posted> {
+        self.selected_above(reader.position, reader.mask, reader.only_on_close)
+    }
+
+    /// The first of them.
+    fn next(&self, reader: &Reader) -> Option<&Posted> {
+        self.due(reader).next()
+    }
+
+    /// Whether a well-formed read brings a reader on: in version 3, or in version
+    /// 2 if none of the records that are due has a wide id.
+    fn brings_on(&self, reader: &Reader, version: u16) -> bool {
+        version == 3 || !self.due(reader).any(Posted::is_wide)
+    }
 }
 
 /// A reader with one filter.
@@ -151,7 +182,8 @@ impl Reader {
     }
 
     /// Whether it has been handed exactly the selected records with a Usn above
-    /// its start and at most its position: once each, in order, byte for byte.
+    /// its start and at most its position: once each, in order, byte for byte, and
+    /// none in version 2 that this version cannot show.
     fn handed_what_is_due(&self, history: &History) -> bool {
         let mut due = history
             .selected_above(self.start, self.mask, self.only_on_close)
@@ -162,6 +194,9 @@ impl Reader {
                 let Some(record) = due.next() else {
                     return false;
                 };
+                if *version == 2 && record.is_wide() {
+                    return false;
+                }
                 let bytes = lay_out(*version, &record.change, record.usn, &record.name);
                 match rest.strip_prefix(&bytes[..]) {
                     Some(behind) => rest = behind,
@@ -183,6 +218,8 @@ struct List {
     /// Readers that were told that records are gone, and do not come back.
     retired: Vec<Reader>,
     names: Names,
+    /// How many posts out of a hundred have a wide id.
+    wide: u64,
 }
 
 /// What a list leaves for the next one.
@@ -214,6 +251,13 @@ struct Run {
     handed: u64,
     loads: u64,
     went_on: u64,
+    /// Reads of readers in version 2 that ended before a record with a wide id,
+    /// and that were refused for one.
+    stopped: u64,
+    refused: u64,
+    /// Readers brought to the end past such a record, and by reads of version 2.
+    past_wide: u64,
+    by_two: u64,
 }
 
 impl Run {
@@ -302,6 +346,7 @@ impl Run {
             names: self
                 .rng
                 .pick(&[Names::Mixed, Names::Mixed, Names::Short, Names::Long]),
+            wide: common::share_of_wide(&mut self.rng),
         };
         self.counts.add(status);
         let right = status == Status::Success && self.agrees(&list);
@@ -347,7 +392,8 @@ impl Run {
         self.after(list, &before, status, "create");
     }
 
-    /// A load that has to be refused: another one would begin a new list.
+    /// A load that has to be refused: another one would begin a new list. Of a
+    /// wide id the image has what version 2 has room for.
     fn load(&mut self, list: &mut List) {
         let mut image = list.history.image();
         let at = self.rng.below(image.len() as u64) as usize;
@@ -371,7 +417,8 @@ impl Run {
         self.after(list, &before, status, "load");
     }
 
-    /// A save: its image holds what the history keeps.
+    /// A save: its image holds what the history keeps. It is refused while that has
+    /// a wide id.
     fn save(&mut self, list: &List, room: usize) -> Vec<u8> {
         let before = self.rng.bytes(room + GUARD);
         let mut output = before.clone();
@@ -379,9 +426,11 @@ impl Run {
         let answer = list.volume.save_journal(lent, &mut output[..room]);
         self.counts.add(answer.status);
         let due = list.history.image();
+        let narrow = list.history.live && !list.history.keeps_wide();
         let right = match answer.status {
-            Status::Success => list.history.live && output[..answer.count] == due,
-            Status::BufferTooSmall => list.history.live && room < due.len(),
+            Status::Success => narrow && output[..answer.count] == due,
+            Status::NotSupported => list.history.live && !narrow,
+            Status::BufferTooSmall => narrow && room < due.len(),
             _ => !list.history.live,
         };
         let behind = output[answer.count..] == before[answer.count..];
@@ -431,7 +480,7 @@ impl Run {
     /// A post; `good` or not, it may be one that is skipped or refused.
     fn post(&mut self, list: &mut List, good: bool) {
         let rng = &mut self.rng;
-        let mut change = common::change(rng);
+        let mut change = common::any_change(rng, list.wide);
         let mut length = match list.names {
             Names::Mixed => common::name_length(rng, 20),
             Names::Short => rng.pick(&[2, 2, 2, 4, 6, 12]),
@@ -534,11 +583,14 @@ impl Run {
         self.read(list, &input, room);
     }
 
-    /// The input with which a reader comes back.
+    /// The input with which a reader comes back. Before a record that version 2
+    /// cannot show it often asks for version 3.
     fn input(&mut self, list: &List, reader: usize) -> ReadInput {
         let reader = &list.readers[reader];
+        let before_wide = list.history.next(reader).is_some_and(Posted::is_wide);
         let version = match self.rng.below(5) {
             0 => self.rng.pick(&[2, 3]),
+            1..=3 if before_wide => 3,
             _ => reader.version,
         };
         let size = match version {
@@ -568,25 +620,31 @@ impl Run {
             && version.is_some()
             && input.id == history.id;
         let gone = history.dropped_above(it.position);
-        let next = history
-            .selected_above(it.position, it.mask, it.only_on_close)
-            .next();
+        let next = history.next(it);
         let fits = next.is_none_or(|record| {
             room >= 8 + record_length(version.unwrap_or(2), record.name.len())
         });
+        let shown = version == Some(3) || !next.is_some_and(Posted::is_wide);
         let right = match status {
             Status::Success => {
-                well_formed && !gone && fits && position >= it.position && position <= history.end
+                well_formed
+                    && !gone
+                    && shown
+                    && fits
+                    && position >= it.position
+                    && position <= history.end
             }
             Status::JournalEntryDeleted => well_formed && gone,
-            Status::BufferTooSmall => !well_formed || !gone && !fits,
+            Status::NotSupported => well_formed && !gone && !shown,
+            Status::BufferTooSmall => !well_formed || !gone && shown && !fits,
             _ => !well_formed,
         };
         // The read's index was the one before.
         check(right, TEST, self.index - 1, || {
             format!(
                 "read gave {status}, position {position}, well-formed {well_formed}, \
-                 records gone {gone}, next record fits {fits}\n{input:?}, output of {room}\n\
+                 records gone {gone}, next record can be shown {shown} and fits {fits}\n\
+                 {input:?}, output of {room}\n\
                  start {} position {} history first {} end {}\n{:?}",
                 it.start, it.position, history.first, history.end, list.volume
             )
@@ -594,9 +652,15 @@ impl Run {
         if status == Status::JournalEntryDeleted {
             self.told += 1;
         }
+        if status == Status::NotSupported {
+            self.refused += 1;
+        }
         if status == Status::Success {
             it.position = position;
             it.replies.push((version.unwrap_or(2), records));
+            // The record that ended the reply, by its room or by its ids.
+            let wide = history.next(it).is_some_and(Posted::is_wide);
+            self.stopped += u64::from(version == Some(2) && wide);
         }
     }
 
@@ -607,7 +671,7 @@ impl Run {
         let fixed = 8 + if input.highest == 2 { 60 } else { 76 };
         let lengths: Vec<usize> = list
             .history
-            .selected_above(it.position, it.mask, it.only_on_close)
+            .due(it)
             .take(4)
             .map(|record| record_length(input.highest, record.name.len()))
             .collect();
@@ -648,25 +712,35 @@ impl Run {
     }
 
     /// With no posts between, as many well-formed reads of 600 bytes or more as
-    /// there are selected records bring a reader to the journal's end.
+    /// there are selected records bring a reader to the journal's end. Reads in
+    /// version 2 before a record with a wide id do not count among them.
     fn bring_to_the_end(&mut self, list: &mut List, reader: usize) {
         let it = &list.readers[reader];
         if !list.history.live || list.history.dropped_above(it.position) {
             return;
         }
-        let due = list
-            .history
-            .selected_above(it.position, it.mask, it.only_on_close)
-            .count();
+        let due = list.history.due(it).count();
+        let past_wide = !list.history.brings_on(it, 2);
         let busy = self.rng.percent(50);
-        for _ in 0..due.max(1) {
+        let (mut counted, mut by_two) = (0, 0);
+        while counted < due.max(1) {
             if busy && self.rng.percent(30) {
                 self.idle_call(list, reader);
             }
-            let input = self.input(list, reader);
+            let mut input = self.input(list, reader);
+            let it = &list.readers[reader];
+            // A reader that does not come on mostly asks for version 3.
+            if !list.history.brings_on(it, input.highest) && self.rng.percent(80) {
+                (input.highest, input.size) = (3, 48);
+            }
+            let counts = list.history.brings_on(it, input.highest);
+            counted += usize::from(counts);
+            by_two += u64::from(counts && input.highest == 2);
             let room = 600 + self.rng.pick(&[0, 0, 0, 1, 8, 500]);
             self.reader_read(list, reader, &input, room);
         }
+        self.past_wide += u64::from(past_wide);
+        self.by_two += by_two;
         let it = &list.readers[reader];
         check(it.position == list.history.end, TEST, self.index, || {
             format!(
@@ -735,7 +809,7 @@ impl Run {
                 self.end(&list);
                 Left::Idle(list.volume, list.ring, list.lent)
             }
-            2 if list.history.live => {
+            2 if list.history.live && !list.history.keeps_wide() => {
                 let image = self.save(&list, list.lent + TRAILER);
                 let readers = std::mem::take(&mut list.readers);
                 self.end(&list);
@@ -795,6 +869,10 @@ fn readers_are_handed_what_was_posted() {
         handed: 0,
         loads: 0,
         went_on: 0,
+        stopped: 0,
+        refused: 0,
+        past_wide: 0,
+        by_two: 0,
     };
     let mut lists = 0;
     let mut left = Left::Nothing;
@@ -827,6 +905,13 @@ fn readers_are_handed_what_was_posted() {
     );
     assert!(run.handed > 50_000 && run.brought > 1000 && run.told > 1000);
     assert!(run.loads > 50 && run.went_on > 100);
+    println!(
+        "{TEST}: in version 2 {} replies ended before a wide id and {} reads were refused for one; \
+         {} readers were brought past one, and {} of the reads that count were in version 2",
+        run.stopped, run.refused, run.past_wide, run.by_two
+    );
+    assert!(run.stopped > 300 && run.refused > 500);
+    assert!(run.past_wide > 200 && run.by_two > 1000);
     let expected = [&expected::JOURNAL[..], &[Status::UnknownRevision]].concat();
     run.counts.finish(&expected, 200_000);
 }

@@ -4,7 +4,7 @@
 mod common;
 
 use common::{change_of, check, expected, lay_out, record_length, Counts, Hex, Lent, Rng};
-use lanhduxe::{list_reply, read_record, walk_reply, Record, Status};
+use lanhduxe::{list_reply, read_record, walk_reply, Change, Record, Status};
 
 const CALLS: u64 = 100_000;
 
@@ -19,6 +19,14 @@ fn name(rng: &mut Rng) -> Vec<u8> {
     common::name(rng, length)
 }
 
+/// A change that a version can show.
+fn change(rng: &mut Rng, version: u16) -> Change {
+    match version {
+        2 => common::change(rng),
+        _ => common::any_change(rng, 40),
+    }
+}
+
 /// A good reply, and where each of its records begins.
 fn good_reply(rng: &mut Rng) -> (Vec<u8>, Vec<usize>) {
     let mut reply = rng.long().to_le_bytes().to_vec();
@@ -27,7 +35,7 @@ fn good_reply(rng: &mut Rng) -> (Vec<u8>, Vec<usize>) {
         places.push(reply.len());
         let version = rng.pick(&[2, 3]);
         let usn = rng.long() >> 1;
-        let change = common::change(rng);
+        let change = change(rng, version);
         let name = name(rng);
         reply.extend(lay_out(version, &change, usn, &name));
     }
@@ -72,7 +80,7 @@ fn damage_record(rng: &mut Rng, bytes: &mut [u8], at: usize) {
             &rng.pick(&[0u16, 1, 2, 3, 4, 0x102, 0x103]).to_le_bytes(),
         ),
         2 => put(rest, 6, &rng.pick(&[1u16, 0x100, u16::MAX]).to_le_bytes()),
-        // The upper id bytes (other fields in version 2).
+        // The upper id bytes, which may be any (other fields in version 2).
         3 => put(rest, 16 + rng.below(8) as usize, &[rng.draw() as u8]),
         4 => put(rest, 32 + rng.below(8) as usize, &[rng.draw() as u8]),
         // The Usn: negative, or the highest.
@@ -181,8 +189,8 @@ fn same_record(library: &Option<Record>, model: &Option<model::Record>) -> bool 
         (None, None) => true,
         (Some(library), Some(model)) => {
             library.version == model.version
-                && library.file == model.file
-                && library.parent == model.parent
+                && library.file.number() == model.file
+                && library.parent.number() == model.parent
                 && library.usn == model.usn
                 && library.time == model.time
                 && library.reason == model.reason
@@ -257,7 +265,7 @@ fn a_record_laid_out_is_read_back_to_the_same_fields() {
     for _ in 0..20_000 {
         let version = rng.pick(&[2u16, 3]);
         let usn = rng.long() >> 1;
-        let change = common::change(&mut rng);
+        let change = change(&mut rng, version);
         let name = name(&mut rng);
         let before = rng.below(100) as usize;
         let mut bytes = rng.bytes(before);
@@ -326,7 +334,7 @@ fn the_walker_has_no_length_limit() {
     let mut count = 0;
     while bytes.len() < 200_000 {
         let version = rng.pick(&[2, 3]);
-        let change = common::change(&mut rng);
+        let change = change(&mut rng, version);
         let name = name(&mut rng);
         bytes.extend(lay_out(version, &change, 8, &name));
         count += 1;

@@ -15,7 +15,7 @@ use common::{check, expected, image, lay_out, model_change, model_volume};
 use common::{Counts, Rng, NEGATIVE};
 use core::ffi::c_void;
 use lanhduxe::Status::{self, *};
-use lanhduxe::{Change, Volume};
+use lanhduxe::{Change, FileId, Volume};
 use std::mem::size_of;
 use std::ptr;
 
@@ -189,7 +189,7 @@ fn full() -> (Volume, Vec<u8>) {
     assert_eq!(volume.create(7), Success);
     for file in 0..20 {
         let change = Change {
-            file,
+            file: FileId::new(file),
             reason: 0x100,
             ..Change::default()
         };
@@ -355,7 +355,7 @@ fn post_stores_first_and_last_or_nothing() {
             0 => rng.pick(&BAD_NAMES),
             _ => &NAME[..rng.pick(&[0, 1, 2, 2, 2, 4, 100, 510, 511, 512])],
         };
-        Call::Post(common::change(rng), name)
+        Call::Post(common::any_change(rng, 30), name)
     });
 }
 

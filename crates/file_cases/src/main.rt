@@ -9,6 +9,7 @@ use case_rows::print_number;
 use case_rows::print_status;
 use case_rows::size;
 use case_rows::word;
+use file_ids::id_of;
 use file_record::FileRecord;
 use status::Answer;
 use volume::Volume;
@@ -54,7 +55,7 @@ fn volume(usn: u32, regions: u32, reparse: u32, points: u32) -> Volume {
 // The file of a row: usn, attributes, eof, valid data length, tag.
 fn file(usn: u64, attributes: u32, eof: u64, valid: u64, tag: u32) -> FileRecord {
     FileRecord {
-        id: 0x1122_3344_5566_7788,
+        id: id_of(0x1122_3344_5566_7788),
         attributes,
         usn,
         eof,
@@ -132,7 +133,7 @@ fn usn_of(
     let k = size(row, 8, shorts.len());
     let v = volume(word(row, 1), 0, 0, 0);
     let f = file(number(row, 2), word(row, 3), 0, 0, 0);
-    let parent = number(row, 4);
+    let parent = id_of(number(row, 4));
     let answer = file_usn::read_file_usn(
         v,
         f,

@@ -1,9 +1,11 @@
 // A file's record as the server lends it to a control. Its reparse data, names and links are lent beside it.
 
+use file_ids::FileId;
+
 // Sizes and Usn are bit patterns of 64 bits; a control refuses what is out of range.
 #[repr(C)]
 pub struct FileRecord {
-    pub id: u64,
+    pub id: FileId,
     pub usn: u64,
     // end of file and valid data length
     pub eof: u64,

@@ -24,7 +24,7 @@ use Rattle.names.proofs.Names.{short}
 use Rattle.file_usn.specs.FileUsn.{fileCheck, fileFields, fileAnswer, namedReply}
 
 -- a record is written as the control answers
-same-reply : (v : Version) (f : FileRecord) (p : ℕ) (name : List ℕ) (room : ℕ) → copyReply (layout v (fileFields f p) name) room ≡ fileAnswer v f p name room
+same-reply : (v : Version) (f : FileRecord) (p : List ℕ) (name : List ℕ) (room : ℕ) → copyReply (layout v (fileFields f p) name) room ≡ fileAnswer v f p name room
 unfolding fileAnswer
 same-reply v f p name room = rw (length-layout v (fileFields f p) name)
 
@@ -49,13 +49,13 @@ module _ (pool : List ℕ) (l : Link) where
       omega (arith, e, ap length are-name, short (nameAt pool l) (link-named pool l g))
 
   pub write-replied : (v : Version) (fields : Fields) (out last : List ℕ) (r : Answer) → Replied (copyReply (layout v fields parts) (length out)) r out last
-      → (f : FileRecord) (p : ℕ) → fields ≡ fileFields f p → Replied (fileAnswer v f p (nameAt pool l) (length out)) r out last
+      → (f : FileRecord) (p : List ℕ) → fields ≡ fileFields f p → Replied (fileAnswer v f p (nameAt pool l) (length out)) r out last
   write-replied v fields out last r q f p h =
       let same = ap₂ (λ (x : Fields) (y : List ℕ). copyReply (layout v x y) (length out)) h are-name ∙ same-reply v f p (nameAt pool l) (length out) in
       subst (λ (y : Reply). Replied y r out last) same q
 
 -- with a bad table the name does not count
-pub name-unread : (v : Volume) (f : FileRecord) (parent : ℕ) (input o name other : List ℕ)
+pub name-unread : (v : Volume) (f : FileRecord) (parent : List ℕ) (input o name other : List ℕ)
     → namedReply v f parent false name input (length o) ≡ namedReply v f parent false other input (length o)
 unfolding namedReply fileCheck
 name-unread v f parent input o name other = go (supported (v .usn)) refl

@@ -1,12 +1,14 @@
 // FSCTL_READ_FILE_USN_DATA: a USN record of the file as it is now.
 ghost use mathlib.Core.Path.{_≡_};
 ghost use mathlib.Core.Bool.{true};
-ghost use Prim.Native.Nat.{ℕ, _<_};
+ghost use mathlib.Core.List.{List};
+ghost use Prim.Native.Nat.{ℕ};
 ghost use lib.ListN.{length};
 ghost use Rattle.status.specs.Reply.{Replied};
 ghost use Rattle.usn_record.specs.Version.{chosen};
 ghost use Rattle.file_links.specs.Links.{nameAt, goodLink};
 ghost use Rattle.file_usn.specs.FileUsn.{fileVersion, fileCheck, fileFields, fileAnswer, namedReply, tableReply};
+use file_ids::FileId;
 use file_links::Link;
 use file_links::choose_link;
 use file_links::good_table;
@@ -20,11 +22,19 @@ use usn_record::Fields;
 use usn_record::Version;
 use usn_record::input_version;
 use usn_record::name_offset;
+use usn_record::shows_ids;
 use volume::Volume;
 
 // The version to reply in, or the first check that refuses the call. `table` says whether the table of links is right.
-fn judge_file(v: Volume, f: FileRecord, table: bool, input: &[u8], room: usize) -> Choice
-    ensures { λ r. ⌜ r ≡ chosen (fileCheck v f table (now (input .entry)) room) (fileVersion (now (input .entry))) ⌝ }
+fn judge_file(
+    v: Volume,
+    f: FileRecord,
+    parent: FileId,
+    table: bool,
+    input: &[u8],
+    room: usize,
+) -> Choice
+    ensures { λ r. ⌜ r ≡ chosen (fileCheck v f parent table (now (input .entry)) room) (fileVersion (now (input .entry))) ⌝ }
 {
     if v.usn == 0 {
         return Choice::Refuse(Status::InvalidDeviceRequest);
@@ -42,17 +52,22 @@ fn judge_file(v: Volume, f: FileRecord, table: bool, input: &[u8], room: usize) 
             if room < name_offset(version) + 4 {
                 return Choice::Refuse(Status::BufferTooSmall);
             }
+            let file = f.id;
+            if !shows_ids(version, file, parent) {
+                return Choice::Refuse(Status::NotSupported);
+            }
             Choice::Use(version)
         }
     }
 }
 
 // The fields of a file's record.
-fn fields_of(f: FileRecord, parent: u64) -> Fields
+fn fields_of(f: FileRecord, parent: FileId) -> Fields
     ensures { λ r. ⌜ r ≡ fileFields f parent ⌝ }
 {
+    let file = f.id;
     Fields {
-        file: f.id,
+        file,
         parent,
         usn: f.usn,
         time: 0,
@@ -66,7 +81,7 @@ fn fields_of(f: FileRecord, parent: u64) -> Fields
 // Writes the record of a file, with the name of a good link, in version v. The table was judged, so the name is not judged again.
 fn write_file(v: Version, fields: Fields, pool: &[u8], link: Link, output: &mut [u8]) -> Answer
     requires { ⌜ goodLink (now pool) link ≡ true ⌝ }
-    ensures { λ r. ⌜ ((f : FileRecord) (p : ℕ) → fields ≡ fileFields f p → Replied (fileAnswer v f p (nameAt (now (pool .entry)) link) (length (now (output .entry)))) r (now (output .entry)) (now (output .exit))) ⌝ }
+    ensures { λ r. ⌜ ((f : FileRecord) (p : List ℕ) → fields ≡ fileFields f p → Replied (fileAnswer v f p (nameAt (now (pool .entry)) link) (length (now (output .entry)))) r (now (output .entry)) (now (output .exit))) ⌝ }
 {
     let from = link.place as usize;
     let to = from + link.length as usize;
@@ -77,7 +92,7 @@ fn write_file(v: Version, fields: Fields, pool: &[u8], link: Link, output: &mut 
 pub fn read_chosen(
     v: Volume,
     f: FileRecord,
-    parent: u64,
+    parent: FileId,
     pool: &[u8],
     table: bool,
     link: Link,
@@ -87,7 +102,7 @@ pub fn read_chosen(
     requires { ⌜ (table ≡ true → goodLink (now pool) link ≡ true) ⌝ }
     ensures { λ r. ⌜ Replied (namedReply v f parent table (nameAt (now (pool .entry)) link) (now (input .entry)) (length (now (output .entry)))) r (now (output .entry)) (now (output .exit)) ⌝ }
 {
-    let choice = judge_file(v, f, table, input, output.len());
+    let choice = judge_file(v, f, parent, table, input, output.len());
     match choice {
         Choice::Refuse(x) => status::refused(x),
         Choice::Use(version) => write_file(version, fields_of(f, parent), pool, link, output),
@@ -99,7 +114,7 @@ pub fn read_chosen(
 pub fn read_file_usn(
     v: Volume,
     f: FileRecord,
-    parent: u64,
+    parent: FileId,
     pool: &[u8],
     places: &[u32],
     lengths: &[u32],

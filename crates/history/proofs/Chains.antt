@@ -3,7 +3,7 @@
 use mathlib.Core.Path.{_≡_, refl, sym, ap, ap₂, _∙_, subst₂}
 use mathlib.Core.Logic.{_⊎_, inl, inr}
 use mathlib.Core.Bool.{and-false, Bool, true, false, not, cond, _&&_, _||_}
-use mathlib.Core.Option.{none, some}
+use mathlib.Core.Option.{Option, none, some}
 use mathlib.Core.List.{List, [], _∷_, _++_, List·Memᴰ, List·Memᴰ·head, List·Memᴰ·tail, List·Memᴰ·not-nil, List·Memᴰ·cases-cons, append-assoc}
 use Prim.Native.Nat.{ℕ, _-_, _^_, _≤_, _<_}
 use native.Mathlib.Omega.{arith}
@@ -11,16 +11,19 @@ use lib.Bits.{bitAnd}
 use lib.Dec.{leb, ltb, eqb}
 use lib.ListN.{length}
 use borrow.Author.Tests.{ltb-true, ltb-false, eqb-true, lt-ltb, le-ltb, le-leb, lt-leb, eq-eqb, ne-eqb}
+use Rattle.le.proofs.Runs.{and-left}
+use Rattle.status.specs.declared.Status.{Status}
 use Rattle.usn_record.specs.declared.Version.{Version}
-use Rattle.usn_record.specs.Layout.{Record, lengthOf, inVersion}
+use Rattle.usn_record.specs.Layout.{shows, Record, lengthOf, inVersion}
+use Rattle.records.specs.Records.{allShown}
 use Rattle.journal.specs.Boundary.{recordsAfter}
 use Rattle.journal_page.specs.declared.Filter.{Filter}
 use Rattle.journal_page.specs.Select.{wanted, selects}
 use Rattle.kept_writer.specs.Kept.{fits}
-use Rattle.journal_page.specs.Page.{Page, pageStep, pageOf, empty}
+use Rattle.journal_page.specs.Page.{stops, Page, pageStep, pageOf, pageCheck}
 use Rattle.history.specs.Reading.{Alike}
 use Rattle.history.specs.Demand.{keep, filter, between, above}
-use Rattle.journal_post.proofs.Links.{Chain, chain-le, link-rises, link-short}
+use Rattle.journal_post.proofs.Links.{Link, Chain, chain-le, link-rises, link-short}
 use Rattle.history.proofs.Effects.{clash, and-true}
 
 -- ---- filters
@@ -183,13 +186,13 @@ pub record Split (f : Filter) (p : ℕ) (l : List Record) (e : ℕ) (c : Page) :
   pub upto : Chain p taken (c .position)
   pub beyond : Chain (c .position) remain e
   pub given : c .given ≡ filter (selects f) taken
-  pub whole : c .cut ≡ false → c .position ≡ e
-  pub waiting : c .cut ≡ true → 1 ≤ length (filter (selects f) remain)
+  pub whole : c .stop ≡ none → c .position ≡ e
+  pub waiting : (x : Status) → c .stop ≡ some x → 1 ≤ length (filter (selects f) remain)
 
 module _ (f : Filter) (p : ℕ) (r : Record) (rs : List Record) (e : ℕ) (h : Chain p (r ∷ rs) e) where
   -- the record r passed over or taken, before the rest of the page
   split-past : (c : Page) (given : List Record) (s : Split f (r .fields .usn) rs e c) → given ≡ filter (selects f) (r ∷ s .taken)
-      → Split f p (r ∷ rs) e (record { given = given; position = c .position; cut = c .cut })
+      → Split f p (r ∷ rs) e (record { given = given; position = c .position; stop = c .stop })
   split-past c given s q =
       record {
         taken = r ∷ s .taken;
@@ -202,36 +205,39 @@ module _ (f : Filter) (p : ℕ) (r : Record) (rs : List Record) (e : ℕ) (h : C
         waiting = s .waiting;
       }
 
-  split-turn : (b₁ b₂ : Bool) (passed taken : Page) → selects f r ≡ b₁
+  split-turn : (b : Bool) (k : Option Status) (passed taken : Page) → selects f r ≡ b
       → Split f (r .fields .usn) rs e passed → Split f (r .fields .usn) rs e taken
-      → Split f p (r ∷ rs) e (pageStep b₁ b₂ r p passed taken)
-  split-turn false b₂ passed taken q s t = split-past passed (passed .given) s (rw q (s .given))
-  split-turn true true passed taken q s t = split-past taken (r ∷ taken .given) t (rw q (ap (λ (x : List Record). r ∷ x) (t .given)))
-  split-turn true false passed taken q s t =
-      record { taken = []; remain = r ∷ rs; parts = refl; upto = refl; beyond = h; given = refl; whole = λ z. clash cc; waiting = λ z. rw q (omega arith) }
+      → Split f p (r ∷ rs) e (pageStep b k r p passed taken)
+  split-turn false k passed taken q s t = split-past passed (passed .given) s (rw q (s .given))
+  split-turn true none passed taken q s t = split-past taken (r ∷ taken .given) t (rw q (ap (λ (x : List Record). r ∷ x) (t .given)))
+  split-turn true (some x) passed taken q s t =
+      record { taken = []; remain = r ∷ rs; parts = refl; upto = refl; beyond = h; given = refl; whole = λ z. clash cc; waiting = λ y z. rw q (omega arith) }
 
 pub split : (v : Version) (f : Filter) (room p : ℕ) (l : List Record) (e : ℕ) → Chain p l e → Split f p l e (pageOf v f room p l)
 unfolding pageOf
 split v f room p [] e h =
-    record { taken = []; remain = []; parts = refl; upto = refl; beyond = h; given = refl; whole = λ z. h; waiting = λ z. clash cc }
+    record { taken = []; remain = []; parts = refl; upto = refl; beyond = h; given = refl; whole = λ z. h; waiting = λ y z. clash cc }
 split v f room p (r ∷ rs) e h =
-    split-turn f p r rs e h (selects f r) (fits v room r) _ _ refl (split v f room (r .fields .usn) rs e (h .1))
+    split-turn f p r rs e h (selects f r) (stops v room r) _ _ refl (split v f room (r .fields .usn) rs e (h .1))
     (split v f (room - lengthOf (inVersion v r)) (r .fields .usn) rs e (h .1))
 
--- with room for the longest record the first selected one fits
-pub first-fits : (v : Version) (f : Filter) (room p : ℕ) (l : List Record) (e : ℕ) → Chain p l e → 592 ≤ room
-    → pageOf v f room p l .cut && empty (pageOf v f room p l .given) ≡ false
-unfolding pageOf fits
-first-fits v f room p [] e h k = refl
-first-fits v f room p (r ∷ rs) e h k =
-    rw (le-leb (lengthOf (inVersion v r)) room (omega (arith, link-short p r (h .0) v)))
-    (go (selects f r) (first-fits v f room (r .fields .usn) rs e (h .1) k))
+-- a record that the version shows, with room for the longest, can be given
+no-stop : (v : Version) (room p : ℕ) (r : Record) → Link p r → 592 ≤ room → shows v (r .fields) ≡ true → stops v room r ≡ none
+unfolding stops fits
+no-stop v room p r k h w = rw (w, le-leb (lengthOf (inVersion v r)) room (omega (arith, link-short p r k v)))
+
+-- so with that room and a version that shows all selected ones, the first of them is given
+pub first-given : (v : Version) (f : Filter) (room p : ℕ) (l : List Record) (e : ℕ) → Chain p l e → 592 ≤ room → allShown v (filter (selects f) l) ≡ true
+    → pageCheck (pageOf v f room p l) ≡ none
+unfolding pageOf allShown
+first-given v f room p [] e h k w = refl
+first-given v f room p (r ∷ rs) e h k w = go (selects f r) w (first-given v f room (r .fields .usn) rs e (h .1) k)
   where
-    go : (b : Bool) → pageOf v f room (r .fields .usn) rs .cut && empty (pageOf v f room (r .fields .usn) rs .given) ≡ false
-        → pageStep b true r p (pageOf v f room (r .fields .usn) rs) (pageOf v f (room - lengthOf (inVersion v r)) (r .fields .usn) rs) .cut
-        && empty (pageStep b true r p (pageOf v f room (r .fields .usn) rs) (pageOf v f (room - lengthOf (inVersion v r)) (r .fields .usn) rs) .given) ≡ false
-    go true ih = and-false (pageOf v f (room - lengthOf (inVersion v r)) (r .fields .usn) rs .cut)
-    go false ih = ih
+    go : (b : Bool) → allShown v (keep b r (filter (selects f) rs)) ≡ true
+        → (allShown v (filter (selects f) rs) ≡ true → pageCheck (pageOf v f room (r .fields .usn) rs) ≡ none)
+        → pageCheck (pageStep b (stops v room r) r p (pageOf v f room (r .fields .usn) rs) (pageOf v f (room - lengthOf (inVersion v r)) (r .fields .usn) rs)) ≡ none
+    go true w next = rw (no-stop v room p r (h .0) k (and-left (shows v (r .fields)) _ w))
+    go false w next = next w
 
 -- filters with one mask, both or neither for closes only, want the same
 wanted-alike : (f g : Filter) → Alike f g → (reason : ℕ) → wanted f reason ≡ wanted g reason
@@ -243,7 +249,7 @@ pub page-alike : (v : Version) (f g : Filter) → Alike f g → (room p : ℕ) (
 unfolding pageOf
 page-alike v f g a room p [] = refl
 page-alike v f g a room p (r ∷ rs) =
-    ap (λ (x : Bool). pageStep x (fits v room r) r p (pageOf v f room (r .fields .usn) rs) (pageOf v f (room - lengthOf (inVersion v r)) (r .fields .usn) rs))
+    ap (λ (x : Bool). pageStep x (stops v room r) r p (pageOf v f room (r .fields .usn) rs) (pageOf v f (room - lengthOf (inVersion v r)) (r .fields .usn) rs))
     (wanted-alike f g a (r .fields .reason))
-    ∙ ap₂ (λ (x y : Page). pageStep (selects g r) (fits v room r) r p x y) (page-alike v f g a room (r .fields .usn) rs)
+    ∙ ap₂ (λ (x y : Page). pageStep (selects g r) (stops v room r) r p x y) (page-alike v f g a room (r .fields .usn) rs)
     (page-alike v f g a (room - lengthOf (inVersion v r)) (r .fields .usn) rs)

@@ -9,14 +9,15 @@ use Prim.Native.Nat.{ℕ, zero, suc}
 use native.Mathlib.Omega.{arith}
 use lib.ListN.{replicate}
 use Rattle.le.specs.Numbers.{le, unle, numberAt, encode, decode, total}
-use Rattle.le.specs.Bytes.{begins}
+use Rattle.le.specs.Bytes.{allZero, begins}
+use Rattle.le.proofs.Runs.{are-bytes}
 use Rattle.status.specs.declared.Status.the-variants.{Success, InvalidParameter, BufferTooSmall, JournalEntryDeleted}
 use Rattle.status.specs.Reply.{Reply, refuse, give, answer}
 use Rattle.volume.specs.State.{goodCapacity, goodPosition}
 use Rattle.names.specs.Names.{goodUnit, goodUnits, goodName}
 use Rattle.usn_record.specs.Layout.{layout, Record}
 use Rattle.record_reader.specs.Read.{accepted, parseAs, parse}
-use Rattle.records.specs.Records.{recordsIn, records, joined}
+use Rattle.records.specs.Records.{recordsIn, records, joined, allShown}
 use Rattle.journal.specs.Kept.{keeps, chained}
 use Rattle.journal.specs.Boundary.{recordsAfter}
 use Rattle.journal_post.specs.declared.Change.{Change}
@@ -25,7 +26,7 @@ use Rattle.journal_page.specs.declared.Filter.{Filter}
 use Rattle.journal_read.specs.Input.{argumentCheck}
 use Rattle.journal_page.specs.Select.{wanted}
 use Rattle.kept_writer.specs.Kept.{fits}
-use Rattle.journal_page.specs.Page.{pageOf, pageReply}
+use Rattle.journal_page.specs.Page.{stops, pageOf, pageReply}
 use Rattle.journal_read.specs.Read.{isDeleted, origin, deletedCheck, readAnswer}
 use Rattle.journal_post.specs.Posts.{Journal, Posting}
 use Rattle.image.specs.Image.{Image, wordsIn, wordSum, goodTrailer, allOf, lastFrom, fitsRing, readImage}
@@ -43,8 +44,12 @@ use Rattle.history.proofs.Whole.{demand3}
 
 -- ---- thirteen posts with names of 2 bytes on a fresh volume of 1,024 bytes
 
+-- an id of one byte
+abbrev pub narrow : ℕ → List ℕ
+narrow n = n ∷ replicate 15 0
+
 abbrev pub change : Change
-change = record { file = 1; parent = 2; time = 3; reason = 256; source = 0; security = 0; attributes = 32 }
+change = record { file = narrow 1; parent = narrow 2; time = 3; reason = 256; source = 0; security = 0; attributes = 32 }
 
 abbrev pub name : List ℕ
 name = 97 ∷ 0 ∷ []
@@ -78,9 +83,9 @@ asks start room = record { input = le 8 start ++ (le 4 0xFFFFFFFF ++ (le 4 0 ++ 
 
 -- ---- the journal that they leave
 
-widths : Widths change
+pub widths : Widths change
 widths =
-    record { file = omega arith; parent = omega arith; time = omega arith; reason = omega arith; source = omega arith; security = omega arith; attributes = omega arith }
+    record { file = record { size = refl; bytes = are-bytes (narrow 1) refl }; parent = record { size = refl; bytes = are-bytes (narrow 2) refl }; time = omega arith; reason = omega arith; source = omega arith; security = omega arith; attributes = omega arith }
 
 all-typed : (n : ℕ) → AllTyped (replicate n (post posting) ++ [])
 all-typed zero = tt
@@ -90,7 +95,7 @@ none-created : (n : ℕ) (j : Journal) → NoCreation j (replicate n (post posti
 none-created zero j = tt
 none-created (suc n) j = (λ q. clash cc, none-created n (next j (post posting)))
 
-created-right : statusOf disk (create 7) ≡ Success
+pub created-right : statusOf disk (create 7) ≡ Success
 unfolding goodCapacity goodPosition
 created-right = refl
 
@@ -160,7 +165,7 @@ answered start room ok = reply-live after told sim (told-right .0) (asks start r
 
 -- each read gives its reply
 pub reads-right : map (λ (e : Example). replyTo after (asks (e .start) (e .room))) examples ≡ map (λ (e : Example). e .reply) examples
-unfolding opened isPosted shed added notePost postedName goodName goodUnits goodUnit le unle numberAt argumentCheck isDeleted origin deletedCheck recordsAfter wanted fits pageOf pageReply readAnswer joined layout encode
+unfolding opened isPosted shed added notePost postedName goodName goodUnits goodUnit le unle numberAt argumentCheck isDeleted origin deletedCheck recordsAfter wanted allZero fits stops pageOf pageReply readAnswer joined layout encode
 reads-right =
     ap₂ _∷_ (answered 40 136 refl)
     (ap₂ _∷_ (answered 100 136 refl)
@@ -189,7 +194,7 @@ reader n m =
 
 -- after two posts one read brings it to the end
 pub reaches-end : follow (journalAfter 2) (fresh 80 all) (mine (asks 80 600) ∷ []) .position ≡ 160
-unfolding opened isPosted shed added notePost postedName goodName goodUnits goodUnit le unle numberAt argumentCheck wellFormed wanted above
+unfolding opened isPosted shed added notePost postedName goodName goodUnits goodUnit le unle numberAt argumentCheck wellFormed wanted above allZero allShown
 reaches-end =
     reader 2 (List·Memᴰ·head refl) .progress (λ d. List·Memᴰ·not-nil (d .1)) (mine (asks 80 600) ∷ []) (tt, tt) (λ q. clash cc, tt) ((refl, (refl, refl)), tt) refl (omega arith)
 
@@ -221,6 +226,6 @@ loaded-reader =
     demand3 disk (load oneBytes 8) loadedHistory loaded-right loaded-opens [] [] 80 all one-bytes tt tt (inl refl) (λ z. omega arith) tt
 
 pub loaded-reaches-end : follow (next disk (load oneBytes 8)) (fresh 80 all) (mine returns ∷ []) .position ≡ 160
-unfolding loadedHistory opened isPosted shed added notePost postedName goodName goodUnits goodUnit le unle numberAt argumentCheck wellFormed wanted above
+unfolding loadedHistory opened isPosted shed added notePost postedName goodName goodUnits goodUnit le unle numberAt argumentCheck wellFormed wanted above allZero allShown
 loaded-reaches-end =
     loaded-reader .progress (λ d. List·Memᴰ·not-nil (d .1)) (mine returns ∷ []) (tt, tt) (λ q. clash cc, tt) ((refl, (refl, refl)), tt) refl (omega arith)

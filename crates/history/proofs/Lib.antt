@@ -6,3 +6,4 @@ pub mod Chains
 pub mod Readers
 pub mod Whole
 pub mod Examples
+pub mod WideIds

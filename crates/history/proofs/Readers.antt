@@ -10,7 +10,7 @@ use native.Mathlib.Omega.{arith}
 use lib.Dec.{ltb, eqb}
 use lib.ListN.{length, drop, length-append}
 use lib.Seq.{take-at, drop-at}
-use borrow.Author.Tests.{ltb-true, ltb-false, lt-ltb, le-ltb, lt-leb, ne-eqb}
+use borrow.Author.Tests.{ltb-true, ltb-false, eqb-false, lt-ltb, le-ltb, lt-leb, ne-eqb}
 use Rattle.le.specs.Numbers.{le, numberAt}
 use Rattle.le.proofs.Numbers.{unle-le, length-le}
 use Rattle.le.proofs.Runs.{and-left, and-right}
@@ -19,7 +19,7 @@ use Rattle.status.specs.declared.Status.the-variants.{Success, InvalidDeviceReq
 use Rattle.status.specs.Number.{number}
 use Rattle.status.specs.Check.{unless, else}
 use Rattle.status.specs.Reply.{Reply, refuse, give, guard, answer}
-use Rattle.status.proofs.Checking.{else-none, unless-true}
+use Rattle.status.proofs.Checking.{else-none, unless-true, Never}
 use Rattle.status.proofs.Numbers.{same-status}
 use Rattle.volume.specs.declared.Volume.{Volume}
 use Rattle.volume.specs.State.{supported, isActive, isDeleting, activeCheck, goodCapacity}
@@ -31,13 +31,14 @@ use Rattle.journal.specs.Kept.{keptBytes, inChain, goodMarks, sound, kept}
 use Rattle.journal.specs.Boundary.{recordsAfter}
 use Rattle.journal_read.specs.Input.{filterOf, versionOf, argumentCheck}
 use Rattle.journal_page.specs.Select.{selects}
-use Rattle.journal_page.specs.Page.{Page, pageOf, empty, pageBytes, pageReply}
+use Rattle.journal_page.specs.Page.{Page, pageOf, empty, pageBytes, pageCheck, pageReply}
 use Rattle.journal_read.specs.Read.{isDeleted, origin, deletedCheck, answerFrom, readAnswer, readCheck, readReply}
 use Rattle.journal_post.specs.Posts.{Journal}
 use Rattle.history.specs.Calls.{Read, read, replyTo, statusOf, next, Typed, AllTyped}
 use Rattle.history.specs.Log.{History, posted, note, notes}
 use Rattle.history.specs.Reading.{Received, Reader, advanced, told, Turn, mine, other, callOf, hears, follow, Carries, Own, Chosen, Hold}
 use Rattle.history.specs.Demand.{filter, between, CreatesNone, NoCreation, DroppedAbove, isNone, wellFormed}
+use Rattle.journal_page.proofs.Giving.{page-stops}
 use Rattle.journal_post.proofs.Links.{Chain, chain-le, chain-append}
 use Rattle.history.proofs.Effects.{clash, usable}
 use Rattle.history.proofs.Sim.{Sim, Grow}
@@ -207,14 +208,18 @@ module _ (j : Journal) (h : History) (m : Sim j h) (d : Reader) (t : Stand h d) 
 
 -- ---- the clause on deleted entries
 
--- a page's reply says SUCCESS or BUFFER_TOO_SMALL, never that entries are deleted
-page-told : (v : Version) (page : Page) → answer (pageReply v page) .status ≡ JournalEntryDeleted → ⊥
+-- a page's reply never says that entries are deleted
+page-told : (v : Version) (page : Page) → Never JournalEntryDeleted (page .stop) → answer (pageReply v page) .status ≡ JournalEntryDeleted → ⊥
 unfolding pageReply
-page-told v page h = go (page .cut && empty (page .given)) (ap number h)
+page-told v page n h = go (empty (page .given)) (page .stop) n (ap number h)
   where
-    go : (x : Bool) → number (answer (cond x (refuse BufferTooSmall) (give Success (le 8 (page .position) ++ pageBytes v page))) .status) ≡ 0xC00002CF → ⊥
-    go true k = omega arith
-    go false k = omega arith
+    bytes : List ℕ
+    bytes = le 8 (page .position) ++ pageBytes v page
+
+    go : (b : Bool) (k : Option Status) → Never JournalEntryDeleted k → number (answer (guard (cond b k none) (give Success bytes)) .status) ≡ 0xC00002CF → ⊥
+    go true none n e = omega arith
+    go true (some x) n e = eqb-false (number x) 0xC00002CF (n .other) e
+    go false k n e = omega arith
 
 pub deleted-iff : (j : Journal) (h : History) (d : Reader) → Sim j h → Stand h d → (a : Read) → Carries d a → wellFormed h a ≡ true
     → (statusOf j (read a) ≡ JournalEntryDeleted) ↔ DroppedAbove h (d .position)
@@ -230,7 +235,7 @@ deleted-iff j h d m t a c w = (there, back)
         by true q =
             let s = some-above (h .base) (h .dropped) (h .first) (d .position) (m .shape .gone) (base-low j h m d t a c (g .0) (g .1)) (ltb-true _ _ q) in
             (s .0, s .1, omega (arith, s .2))
-        by false q = absurd (page-told _ _ (ap (λ (r : Reply). answer r .status) (sym (told-reply j h m d t a c (g .0) (g .1) (ltb-false _ _ q))) ∙ k))
+        by false q = absurd (page-told _ _ (page-stops refl refl _ _ _ _ _) (ap (λ (r : Reply). answer r .status) (sym (told-reply j h m d t a c (g .0) (g .1) (ltb-false _ _ q))) ∙ k))
 
     back : DroppedAbove h (d .position) → statusOf j (read a) ≡ JournalEntryDeleted
     back r =
@@ -242,15 +247,20 @@ deleted-iff j h d m t a c w = (there, back)
 record Full (w : Version) (c : Page) (x : Status) (bytes : List ℕ) : Type 0 where
   success : x ≡ Success
   laid : bytes ≡ le 8 (c .position) ++ joined (map (inVersion w) (c .given))
-  full : c .cut && empty (c .given) ≡ false
+  full : pageCheck c ≡ none
 
 reply-inv : (w : Version) (c : Page) (x : Status) (bytes : List ℕ) → pageReply w c ≡ give x bytes → Full w c x bytes
 unfolding pageReply
-reply-inv w c x bytes h = go (c .cut && empty (c .given)) refl h
+reply-inv w c x bytes h = go (pageCheck c) refl h
   where
-    go : (b : Bool) → c .cut && empty (c .given) ≡ b → cond b (refuse BufferTooSmall) (give Success (le 8 (c .position) ++ pageBytes w c)) ≡ give x bytes → Full w c x bytes
-    go true e k = clash cc
-    go false e k = record { success = cc; laid = cc; full = e }
+    go : (k : Option Status) → pageCheck c ≡ k → guard k (give Success (le 8 (c .position) ++ pageBytes w c)) ≡ give x bytes → Full w c x bytes
+    go (some y) e h = clash cc
+    go none e h = record { success = cc; laid = cc; full = e }
+
+-- a page that stopped and was not refused gives a record
+not-empty : (b : Bool) (x : Status) → cond b (some x) none ≡ none → b ≡ false
+not-empty true x e = clash cc
+not-empty false x e = refl
 
 -- a position and bytes behind it are read back
 position-back : (n : ℕ) (s : List ℕ) → n < 2 ^ 64 → positionOf (le 8 n ++ s) ≡ n
@@ -358,9 +368,10 @@ module _ (j : Journal) (h : History) (m : Sim j h) (d : Reader) (t : Stand h d) 
         ∙ length-append (sel (sp .taken)) (sel (sp .remain))
         ∙ ap (λ (y : List Record). length y + length (sel (sp .remain))) (sym (sp .given))
 
-    ending : (b : Bool) → c .cut ≡ b → (q ≡ h .end) ⊎ ((1 ≤ length (c .given)) × (1 ≤ length (sel (sp .remain))))
-    ending false u = inl (sym at ∙ sp .whole u)
-    ending true u = inr (some-given (c .given) (ap (λ (b : Bool). b && empty (c .given)) (sym u) ∙ r .full), sp .waiting u)
+    ending : (k : Option Status) → c .stop ≡ k → (q ≡ h .end) ⊎ ((1 ≤ length (c .given)) × (1 ≤ length (sel (sp .remain))))
+    ending none u = inl (sym at ∙ sp .whole u)
+    ending (some x) u =
+        inr (some-given (c .given) (not-empty (empty (c .given)) x (ap (λ (k : Option Status). cond (empty (c .given)) k none) (sym u) ∙ r .full)), sp .waiting x u)
 
     advance : Advance h d t a bytes
     advance =
@@ -369,7 +380,7 @@ module _ (j : Journal) (h : History) (m : Sim j h) (d : Reader) (t : Stand h d) 
           count = length (c .given);
           sum = sums;
           rises = p-q;
-          ends = ending (c .cut) refl;
+          ends = ending (c .stop) refl;
         }
 
 -- a reply to one of the reader's own reads: only SUCCESS gives anything

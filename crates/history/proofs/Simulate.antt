@@ -130,6 +130,7 @@ module _ (j : Journal) (h : History) (m : Sim j h) (l : Live j h) (c : Change) (
             security = w .security;
             attributes = shown-lt (c .attributes) (w .attributes);
           };
+          visible = refl;
           named = p .good;
           marked = shown-not (c .attributes);
         };

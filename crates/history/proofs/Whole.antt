@@ -3,7 +3,7 @@
 use mathlib.Core.Path.{_≡_, refl, sym, ap, ap₂, _∙_, subst}
 use mathlib.Core.Logic.{_⊎_, inl, inr}
 use mathlib.Core.Bool.{Bool, true, false, cond, _&&_}
-use mathlib.Core.Option.{none, some}
+use mathlib.Core.Option.{Option, none, some}
 use mathlib.Core.List.{List, [], _∷_, _++_, map, append-assoc, append-nil, append-cancel-left}
 use Prim.Native.Nat.{ℕ, _+_, _-_, _≤_}
 use native.Mathlib.Omega.{arith}
@@ -13,25 +13,26 @@ use borrow.Author.Tests.{ltb-true, ltb-false, leb-true, lt-leb}
 use Rattle.le.specs.Numbers.{le}
 use Rattle.le.proofs.Runs.{and-left, and-right}
 use Rattle.status.specs.declared.Status.{Status}
-use Rattle.status.specs.declared.Status.the-variants.{Success, BufferTooSmall}
-use Rattle.status.specs.Reply.{Reply, refuse, give}
+use Rattle.status.specs.declared.Status.the-variants.{Success}
+use Rattle.status.specs.Reply.{Reply, refuse, give, guard}
 use Rattle.usn_record.specs.declared.Version.{Version}
 use Rattle.usn_record.specs.Layout.{Record}
+use Rattle.records.specs.Records.{allShown}
 use Rattle.reply_walker.specs.Reply.{positionOf}
 use Rattle.journal.specs.Boundary.{recordsAfter}
 use Rattle.journal_page.specs.declared.Filter.{Filter}
 use Rattle.journal_read.specs.Input.{versionOf}
 use Rattle.journal_page.specs.Select.{selects}
-use Rattle.journal_page.specs.Page.{Page, pageOf, empty, pageBytes, pageReply}
+use Rattle.journal_page.specs.Page.{Page, pageOf, pageBytes, pageCheck, pageReply}
 use Rattle.journal_post.specs.Posts.{Journal}
 use Rattle.history.specs.Calls.{Read, Call, replyTo, next, runs, AllTyped}
 use Rattle.history.specs.Log.{History, posted, note, notes}
 use Rattle.history.specs.Reading.{Reader, fresh, advanced, told, Turn, mine, other, callOf, follow, Carries, Chosen}
-use Rattle.history.specs.Demand.{filter, between, above, Rising, Startable, DroppedAbove, NoCreation, wellFormed, one, counts, ample, ReaderPromise, Demand3}
+use Rattle.history.specs.Demand.{filter, between, above, Rising, Startable, DroppedAbove, NoCreation, wellFormed, awaited, one, counts, ample, ReaderPromise, Demand3}
 use Rattle.journal_post.proofs.Links.{Chain, chain-le, link-rises}
 use Rattle.history.proofs.Effects.{clash}
 use Rattle.history.proofs.Sim.{Sim, Grow}
-use Rattle.history.proofs.Chains.{filter-chain, filter-none, above-low, above-all, above-append, after-here, after-mem, some-above, first-fits}
+use Rattle.history.proofs.Chains.{filter-chain, filter-none, above-low, above-all, above-append, after-here, after-mem, some-above, first-given}
 use Rattle.history.proofs.Simulate.{sim-step, opening-sim, nil-parts, sim-run, grow-run}
 use Rattle.history.proofs.Readers.{whole, Stand, stand-boundary, stand-grow, formed, told-reply, deleted-iff, Advance, own-reply, refusal, stand-step, stand-run}
 
@@ -39,10 +40,10 @@ use Rattle.history.proofs.Readers.{whole, Stand, stand-boundary, stand-
 
 -- how many selected records are above the reader's position
 abbrev need : History → Reader → ℕ
-need h d = length (filter (selects (d .filter)) (above (d .position) (posted h)))
+need h d = length (awaited h d)
 
-need-rest : (j : Journal) (h : History) (d : Reader) → Sim j h → (t : Stand h d) → need h d ≡ length (filter (selects (d .filter)) (t .rest))
-need-rest j h d m t = ap (λ (l : List Record). length (filter (selects (d .filter)) l)) same
+awaited-rest : (j : Journal) (h : History) (d : Reader) → Sim j h → (t : Stand h d) → awaited h d ≡ filter (selects (d .filter)) (t .rest)
+awaited-rest j h d m t = ap (filter (selects (d .filter))) same
   where
     same : above (d .position) (posted h) ≡ t .rest
     same =
@@ -52,25 +53,31 @@ need-rest j h d m t = ap (λ (l : List Record). length (filter (selects (d .filt
         ∙ ap₂ (λ (x y : List Record). x ++ y) (above-low (d .position) (h .base) (e .before) (d .position) (e .upto) (omega arith))
         (above-all (d .position) (d .position) (t .rest) (h .end) (e .beyond) (omega arith))
 
-reply-full : (v : Version) (c : Page) → c .cut && empty (c .given) ≡ false → pageReply v c ≡ give Success (le 8 (c .position) ++ pageBytes v c)
+need-rest : (j : Journal) (h : History) (d : Reader) → Sim j h → (t : Stand h d) → need h d ≡ length (filter (selects (d .filter)) (t .rest))
+need-rest j h d m t = ap length (awaited-rest j h d m t)
+
+reply-full : (v : Version) (c : Page) → pageCheck c ≡ none → pageReply v c ≡ give Success (le 8 (c .position) ++ pageBytes v c)
 unfolding pageReply
-reply-full v c h = ap (λ (x : Bool). cond x (refuse BufferTooSmall) (give Success (le 8 (c .position) ++ pageBytes v c))) h
+reply-full v c h = ap (λ (k : Option Status). guard k (give Success (le 8 (c .position) ++ pageBytes v c))) h
 
 -- room for the position and the longest record
-enough : (b : Bool) (n room : ℕ) → b && leb n room ≡ true → 600 ≤ n → 592 ≤ room - 8
-enough b n room h k = omega (arith, leb-true n room (and-right b (leb n room) h))
+enough : (n room : ℕ) → leb n room ≡ true → 600 ≤ n → 592 ≤ room - 8
+enough n room h k = omega (arith, leb-true n room h)
 
--- a well-formed read with room enough is answered, where nothing above its position was dropped
+-- a read that counts is answered, where nothing above its position was dropped
 answered : (j : Journal) (h : History) (d : Reader) → Sim j h → Stand h d → h .first ≤ d .position
-    → (a : Read) → Carries d a → counts h (mine a) ≡ true
+    → (a : Read) → Carries d a → counts h d (mine a) ≡ true
     → (bytes : List ℕ) × (replyTo j a ≡ give Success bytes)
 answered j h d m t low a k w =
+    let v = versionOf (a .input) in
     let g = formed h a (and-left (wellFormed h a) _ w) in
-    let page = pageOf (versionOf (a .input)) (d .filter) (a .room - 8) (d .position) (t .rest) in (
+    let x = and-right (wellFormed h a) _ w in
+    let page = pageOf v (d .filter) (a .room - 8) (d .position) (t .rest) in
+    let shown : allShown v (filter (selects (d .filter)) (t .rest)) ≡ true = sym (ap (allShown v) (awaited-rest j h d m t)) ∙ and-right (leb _ (a .room)) _ x in (
       _,
-      told-reply j h m d t a k (g .0) (g .1) low ∙ reply-full (versionOf (a .input)) page
-          (first-fits (versionOf (a .input)) (d .filter) (a .room - 8) (d .position) (t .rest) (h .end) (stand-boundary j h d m t .beyond)
-          (enough (wellFormed h a) _ (a .room) w (omega arith))),
+      told-reply j h m d t a k (g .0) (g .1) low ∙ reply-full v page
+          (first-given v (d .filter) (a .room - 8) (d .position) (t .rest) (h .end) (stand-boundary j h d m t .beyond)
+          (enough _ (a .room) (and-left (leb _ (a .room)) _ x) (omega arith)) shown),
     )
 
 -- the reader is at the end, or has reads enough before it
@@ -95,16 +102,16 @@ module _ (j : Journal) (h : History) (d : Reader) (m : Sim j h) (t : Stand h d) 
           inr (omega (arith, v .sum, one-le x, e .0, e .1, s .0, s .1), omega (arith, v .sum, one-le x, e .0, e .1, s .0, s .1))
 
   -- one of the reader's own reads
-  soon-mine : (a : Read) → Carries d a → (k : ℕ) → Soon h d (one (counts h (mine a)) + k)
+  soon-mine : (a : Read) → Carries d a → (k : ℕ) → Soon h d (one (counts h d (mine a)) + k)
       → (h .first ≤ told a (replyTo j a) d .position) × Soon h (told a (replyTo j a) d) k
-  soon-mine a c k s = go (replyTo j a) refl (counts h (mine a)) refl s
+  soon-mine a c k s = go (replyTo j a) refl (counts h d (mine a)) refl s
     where
       same : (x : Bool) → (x ≡ true → ⊥) → Soon h d (one x + k) → Soon h d k
       same true n s = absurd (n refl)
       same false n (inl s) = inl s
       same false n (inr s) = inr (omega arith, omega arith)
 
-      go : (r : Reply) → replyTo j a ≡ r → (x : Bool) → counts h (mine a) ≡ x → Soon h d (one x + k) → (h .first ≤ told a r d .position) × Soon h (told a r d) k
+      go : (r : Reply) → replyTo j a ≡ r → (x : Bool) → counts h d (mine a) ≡ x → Soon h d (one x + k) → (h .first ≤ told a r d .position) × Soon h (told a r d) k
       go (refuse i) e x q s = (low, same x (λ z. let w = answered j h d m t low a c (q ∙ z) in let z : refuse i ≡ give Success (w .0) = sym e ∙ w .1 in clash cc) s)
       go (give i bytes) e x q s =
           let o = own-reply j h m d t a c i bytes e in
@@ -127,11 +134,11 @@ module _ (j : Journal) (h : History) (d : Reader) (m : Sim j h) (t : Stand h d) 
 
 progress : (us : List Turn) (j : Journal) (h : History) (d : Reader) → Sim j h → Stand h d → h .first ≤ d .position
     → AllTyped (map callOf us) → NoCreation j (map callOf us) → Chosen j d us
-    → posted (notes h (map callOf us)) ≡ posted h → Soon h d (ample h us) → follow j d us .position ≡ h .end
+    → posted (notes h (map callOf us)) ≡ posted h → Soon h d (ample j h d us) → follow j d us .position ≡ h .end
 progress [] j h d m t low y n c quiet (inl s) = s
 progress [] j h d m t low y n c quiet (inr s) = absurd (omega arith)
 progress (mine a ∷ us) j h d m t low y n c quiet soon =
-    let s = soon-mine j h d m t low a (c .0) (ample h us) soon in
+    let s = soon-mine j h d m t low a (c .0) (ample j h (told a (replyTo j a) d) us) soon in
     progress us j h (told a (replyTo j a) d) m (stand-step j h d m t (mine a) (y .0) (n .0) (c .0)) (s .0) (y .1) (n .1) (c .1) quiet (s .1)
 progress (other k ∷ us) j h d m t low y n c quiet soon =
     let s = sim-step j h m k (y .0) (n .0) in
@@ -147,7 +154,7 @@ progress (other k ∷ us) j h d m t low y n c quiet soon =
     .0 in
     progress us (next j k) (note h k) d (s .0) (stand-grow j h (note h k) d m (s .1) t) (omega (arith, s .1 .calm calm, low)) (y .1) (n .1) (c .1)
     (quiet ∙ sym (same-posted j h d m t low (note h k) (s .1) calm))
-    (soon-other j h d m t low (note h k) (s .1) calm (ample (note h k) us) soon)
+    (soon-other j h d m t low (note h k) (s .1) calm (ample (next j k) (note h k) d us) soon)
     ∙ same-end j h d m t low (note h k) (s .1) calm
 
 -- ---- the start

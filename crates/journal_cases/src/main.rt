@@ -11,6 +11,7 @@ use case_rows::print_number;
 use case_rows::print_status;
 use case_rows::size;
 use case_rows::word;
+use file_ids::id_of;
 use journal_post::Change;
 use status::Answer;
 use volume::Outcome;
@@ -43,8 +44,8 @@ fn letters(name: &mut [u8], first: usize)
 
 fn change(row: &[u8]) -> Change {
     Change {
-        file: 0x0102_0304_0506_0708,
-        parent: 0xF0E0_D0C0_B0A0_9080,
+        file: id_of(0x0102_0304_0506_0708),
+        parent: id_of(0xF0E0_D0C0_B0A0_9080),
         time: number(row, 5),
         reason: word(row, 1),
         source: 2,

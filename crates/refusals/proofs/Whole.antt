@@ -9,9 +9,9 @@ use native.Mathlib.Omega.{arith}
 use lib.Dec.{leb}
 use lib.ListN.{length}
 use Rattle.status.specs.declared.Status.{Status}
-use Rattle.status.specs.declared.Status.the-variants.{Success, BufferOverflow, InvalidParameter, InvalidDeviceRequest, BufferTooSmall, UnknownRevision, DiskFull, FileCorruptError, NotAReparsePoint, VolumeNotUpgraded, JournalDeleteInProgress, JournalNotActive, JournalEntryDeleted}
+use Rattle.status.specs.declared.Status.the-variants.{Success, BufferOverflow, InvalidParameter, InvalidDeviceRequest, BufferTooSmall, UnknownRevision, DiskFull, NotSupported, FileCorruptError, NotAReparsePoint, VolumeNotUpgraded, JournalDeleteInProgress, JournalNotActive, JournalEntryDeleted}
 use Rattle.status.specs.Number.{number}
-use Rattle.status.proofs.Checking.{Never, nevers}
+use Rattle.status.proofs.Checking.{Never, never-none, never-cond, nevers}
 use Rattle.usn_record.specs.declared.Version.{Version}
 use Rattle.usn_record.specs.Layout.{Record}
 use Rattle.record_writer.specs.Write.{writeCheck}
@@ -21,7 +21,8 @@ use Rattle.journal_post.specs.declared.Verdict.{Verdict}
 use Rattle.journal_post.specs.declared.Verdict.the-variants.{Skip, Reject, Accept}
 use Rattle.journal_post.specs.Post.{postCheck, skipped, checked, verdict, verdictStatus, leaves}
 use Rattle.journal_page.specs.declared.Filter.{Filter}
-use Rattle.journal_page.specs.Page.{pageReply}
+use Rattle.journal_page.specs.Page.{pageOf, empty, pageCheck, pageReply}
+use Rattle.journal_page.proofs.Giving.{page-stops}
 use Rattle.journal_read.specs.Input.{argumentCheck}
 use Rattle.journal_read.specs.Read.{deletedCheck, answerFrom, readAnswer, readReply}
 use Rattle.file_record.specs.declared.FileRecord.{FileRecord}
@@ -36,7 +37,7 @@ use Rattle.image.specs.Image.{Image}
 use Rattle.image_save.specs.Save.{saveCheck, imageReply, saveAs, saveReply}
 use Rattle.image_load.specs.Load.{settled, formCheck, fitCheck, imageCheck, loadCheck}
 use Rattle.history.specs.Calls.{Call, create, post, read, delete, finish, save, load, statusOf, next}
-use Rattle.refusals.proofs.Replies.{refutes, Fair, fair-give, fair-warn, fair-leb, fairs, fair-never}
+use Rattle.refusals.proofs.Replies.{refutes, Fair, fair-give, fair-warn, fair-guard, fair-leb, fairs, fair-never}
 use Rattle.refusals.specs.Refusal.{isWarning, isRefusal, Control, readJournal, saveJournal, readFile, readFileTable, queryRegions, getReparsePoint, listRecords, writeRecord, copyRecord, copyOlder, replyOf, usnAfter, Warned, Refusals}
 
 refusals-are-errors : (x : Status) → isRefusal x ≡ leb 0xC0000000 (number x)
@@ -47,6 +48,7 @@ refusals-are-errors InvalidDeviceRequest = refl
 refusals-are-errors BufferTooSmall = refl
 refusals-are-errors UnknownRevision = refl
 refusals-are-errors DiskFull = refl
+refusals-are-errors NotSupported = refl
 refusals-are-errors FileCorruptError = refl
 refusals-are-errors NotAReparsePoint = refl
 refusals-are-errors VolumeNotUpgraded = refl
@@ -59,7 +61,9 @@ refusals-are-errors JournalEntryDeleted = refl
 fair-from : {W : ℕ → Type 0} (v : Version) (f : Filter) (room p : ℕ) (rs : Option (List Record)) → Fair W (answerFrom v f room p rs)
 unfolding pageReply
 fair-from v f room p none = search fairs
-fair-from v f room p (some rs) = search fairs
+fair-from v f room p (some rs) =
+    let page = pageOf v f room p rs in
+    fair-guard (pageCheck page) _ (never-cond (empty (page .given)) (page .stop) none (page-stops refl refl v f room p rs) never-none) (search fairs)
 
 fair-read : {W : ℕ → Type 0} (v : Volume) (ring input : List ℕ) (room : ℕ) → Fair W (readReply v ring input room)
 unfolding readReply readAnswer argumentCheck deletedCheck
@@ -84,8 +88,8 @@ fair-control : (c : Control) (room : ℕ) → Fair (λ n. Warned c room) (replyO
 unfolding namedReply fileCheck fileAnswer reparseReply reparseCheck writeCheck
 fair-control (readJournal v ring input) room = fair-read v ring input room
 fair-control (saveJournal v ring) room = fair-save v ring room
-fair-control (readFile v f parent pool links input) room = search fairs depth 8
-fair-control (readFileTable v f parent pool places lengths shorts input) room = search fairs depth 8
+fair-control (readFile v f parent pool links input) room = search fairs depth 10
+fair-control (readFileTable v f parent pool places lengths shorts input) room = search fairs depth 10
 fair-control (queryRegions v f input) room =
     let p = fair-regions v f input room in
     record { refused = p .refused; warned = λ h. record { volume = v; file = f; input = input; query = refl; short = p .warned h .0; count = p .warned h .1 } }

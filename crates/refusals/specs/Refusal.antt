@@ -41,9 +41,9 @@ pub data Control : Type 0 where
   -- volume record, ring
   saveJournal : Volume → List ℕ → Control
   -- volume record, file record, parent, pool of names, links, input
-  readFile : Volume → FileRecord → ℕ → List ℕ → List Link → List ℕ → Control
+  readFile : Volume → FileRecord → List ℕ → List ℕ → List Link → List ℕ → Control
   -- the same with the links as three runs of numbers
-  readFileTable : Volume → FileRecord → ℕ → List ℕ → List ℕ → List ℕ → List ℕ → List ℕ → Control
+  readFileTable : Volume → FileRecord → List ℕ → List ℕ → List ℕ → List ℕ → List ℕ → List ℕ → Control
   -- volume record, file record, input
   queryRegions : Volume → FileRecord → List ℕ → Control
   -- volume record, file record, reparse data

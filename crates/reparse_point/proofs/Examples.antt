@@ -15,7 +15,7 @@ abbrev pub volume : Volume
 volume = record { usn = 0; regions = 0; reparse = 1; points = 1; journal = 0; state = 0; id = 0; first = 0; last = 0; capacity = 0 }
 
 abbrev pub file : ℕ → FileRecord
-file tag = record { id = 1; attributes = 0x400; usn = 0; eof = 0; valid = 0; tag = tag; guid = replicate 16 0 }
+file tag = record { id = 1 ∷ replicate 15 0; attributes = 0x400; usn = 0; eof = 0; valid = 0; tag = tag; guid = replicate 16 0 }
 
 abbrev pub twenty : List ℕ
 twenty = 1 ∷ 2 ∷ 3 ∷ 4 ∷ 5 ∷ 6 ∷ 7 ∷ 8 ∷ 9 ∷ 10 ∷ 11 ∷ 12 ∷ 13 ∷ 14 ∷ 15 ∷ 16 ∷ 17 ∷ 18 ∷ 19 ∷ 20 ∷ []

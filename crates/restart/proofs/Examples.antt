@@ -9,7 +9,7 @@ use native.Mathlib.Omega.{arith}
 use lib.Dec.{lit<}
 use lib.ListN.{take, getD, set, replicate}
 use Rattle.le.specs.Numbers.{le, unle, numberAt, encode, decode, total}
-use Rattle.le.specs.Bytes.{begins}
+use Rattle.le.specs.Bytes.{allZero, begins}
 use Rattle.le.proofs.Runs.{are-bytes}
 use Rattle.status.specs.declared.Status.{Status}
 use Rattle.status.specs.declared.Status.the-variants.{Success, InvalidParameter, InvalidDeviceRequest, UnknownRevision, DiskFull, FileCorruptError, JournalDeleteInProgress}
@@ -20,7 +20,7 @@ use Rattle.names.specs.Names.{goodUnit, goodUnits, goodName}
 use Rattle.usn_record.specs.declared.Version.the-variants.{V3}
 use Rattle.usn_record.specs.Layout.{layout}
 use Rattle.record_reader.specs.Read.{accepted, parseAs, parse}
-use Rattle.records.specs.Records.{recordsIn, records, joined}
+use Rattle.records.specs.Records.{recordsIn, records, joined, allShown}
 use Rattle.ring.specs.Ring.{rotated, placed}
 use Rattle.journal.specs.Kept.{keptBytes, keeps, chained, goodMarks, sound, kept}
 use Rattle.journal.specs.Boundary.{oldest}
@@ -64,7 +64,7 @@ ring = replicate 80 0 ++ (recordBytes ++ replicate 864 0)
 
 -- 96 bytes of room are enough
 pub one-saved : saveReply saved ring 96 ≡ give Success oneBytes
-unfolding ring saveAs saveCheck imageReply sound goodMarks goodCapacity goodPosition kept keptBytes rotated records recordsIn parse parseAs accepted goodName goodUnits goodUnit layout encode decode le unle total begins chained keeps imageOf sealed sumOf wordSum wordsIn joined
+unfolding ring saveAs saveCheck imageReply sound goodMarks goodCapacity goodPosition kept keptBytes rotated records recordsIn parse parseAs accepted goodName goodUnits goodUnit layout encode decode le unle total begins chained keeps imageOf sealed sumOf wordSum wordsIn joined allZero allShown
 one-saved = refl
 
 typed : TypedJournal saved ring
@@ -116,10 +116,17 @@ blank =
       ring = replicate 1024 0;
     }
 
+-- the ids of the file and its parent
+abbrev five : List ℕ
+five = 5 ∷ replicate 15 0
+
+abbrev six : List ℕ
+six = 6 ∷ replicate 15 0
+
 abbrev pub posting : Posting
 posting =
     record {
-      change = record { file = 5; parent = 6; time = 0; reason = 0x100; source = 0; security = 0; attributes = 0x20 };
+      change = record { file = five; parent = six; time = 0; reason = 0x100; source = 0; security = 0; attributes = 0x20 };
       name = 0x61 ∷ 0 ∷ [];
     }
 
@@ -133,7 +140,7 @@ abbrev pub loadedHistory : History
 loadedHistory = notePosts (opened idle 1024 80 8) (map postingOf (oneImage .records))
 
 calls-leave : record { volume = saved; ring = ring } ≡ runs (next blank (create 7)) calls
-unfolding ring verdict postCheck postedName postedVolume postedRing oldest placed rotated sound goodMarks goodCapacity goodPosition kept keptBytes records recordsIn goodName goodUnits goodUnit layout encode le chained
+unfolding ring verdict postCheck postedName postedVolume postedRing oldest placed rotated sound goodMarks goodCapacity goodPosition kept keptBytes records recordsIn goodName goodUnits goodUnit layout encode le unle chained
 calls-leave = refl
 
 loaded-opens : opening idle 1024 (load oneBytes 8) ≡ some loadedHistory
@@ -142,10 +149,10 @@ loaded-opens = ap (λ (o : Option Image). openedBy idle 1024 (loadEffect 8 o)) o
 -- the record of the post, alone, under its old Usn
 pub one-posted : posted loadedHistory ≡ record {
   version = V3;
-  fields = record { file = 5; parent = 6; usn = 160; time = 0; reason = 0x100; source = 0; security = 0; attributes = 0x20 };
+  fields = record { file = five; parent = six; usn = 160; time = 0; reason = 0x100; source = 0; security = 0; attributes = 0x20 };
   name = 0x61 ∷ 0 ∷ [];
 } ∷ []
-unfolding opened isPosted shed added notePost postedName goodName goodUnits goodUnit
+unfolding opened isPosted shed added notePost postedName goodName goodUnits goodUnit le
 one-posted = refl
 
 -- a reader of all records that had come to position 80
@@ -156,7 +163,7 @@ pub one-across : GoesOn (notes history calls) reader (next (record { volume = id
 unfolding other goodCapacity goodPosition opened isPosted added notePost postedName goodName goodUnits goodUnit
 one-across =
     across blank (create 7) history refl refl calls [] 80 (reader .filter) tt
-    (record { file = lit< tt; parent = lit< tt; time = lit< tt; reason = lit< tt; source = lit< tt; security = lit< tt; attributes = lit< tt }, tt)
+    (record { file = record { size = refl; bytes = are-bytes five refl }; parent = record { size = refl; bytes = are-bytes six refl }; time = lit< tt; reason = lit< tt; source = lit< tt; security = lit< tt; attributes = lit< tt }, tt)
     (λ q. clash cc, tt) (inl refl) (λ z. omega arith) tt (subst (λ (j : Journal). TypedJournal (j .volume) (j .ring)) calls-leave typed) oneBytes one-bytes
     (subst (λ (j : Journal). SavedAs (j .volume) (j .ring) oneBytes) calls-leave (96, one-saved)) (record { volume = idle; ring = other }) 8 loadedHistory
     (one-again .status) loaded-opens

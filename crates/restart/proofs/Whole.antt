@@ -22,6 +22,7 @@ use Rattle.volume.specs.declared.Outcome.{Outcome}
 use Rattle.volume.specs.State.{supported, isActive, isDeleting, activeCheck, goodCapacity}
 use Rattle.volume.specs.Calls.{performed}
 use Rattle.usn_record.specs.declared.Version.the-variants.{V2}
+use Rattle.records.specs.Records.{allShown}
 use Rattle.journal.specs.Kept.{goodMarks, sound, kept}
 use Rattle.journal.proofs.Boundaries.{sound-facts, marks-facts}
 use Rattle.journal_post.specs.Posts.{Journal}
@@ -60,32 +61,35 @@ guarded (some x) r s e = clash cc
 given : (s t : List ℕ) → give Success s ≡ give Success t → s ≡ t
 given s t e = cc
 
--- what saving has written is the image of an active journal with a sound ring
+-- what saving has written is the image of an active journal with a sound ring, all ids of which version 2 shows
 pub record Saved (v : Volume) (ring s : List ℕ) : Type 0 where
   pub on : supported (v .journal) ≡ true
   pub active : isActive v ≡ true
   pub whole : sound v ring ≡ true
+  pub shown : allShown V2 (kept v ring) ≡ true
   pub image : s ≡ imageOf V2 (content v ring)
 
 pub saved-image : (v : Volume) (ring s : List ℕ) → SavedAs v ring s → Saved v ring s
 unfolding saveAs saveCheck imageReply
 saved-image v ring s (room, e) =
     let image : List ℕ = imageOf V2 (content v ring) in
-    let a = guarded (saveCheck v ring) (imageReply image room) s e in
+    let a = guarded (saveCheck V2 v ring) (imageReply image room) s e in
     let b = guarded (unless (leb (length image) room) BufferTooSmall) (give Success image) s (a .1) in
     let c = else-none (unless (supported (v .journal)) _) _ (a .0) in
     let d = else-none (activeCheck v) _ (c .1) in
+    let f = else-none (unless (sound v ring) _) _ (d .1) in
     record {
       on = unless-true (supported (v .journal)) _ (c .0);
       active = unless-true (isActive v) _ (else-right (unless (not (isDeleting v)) _) _ (d .0));
-      whole = unless-true (sound v ring) _ (d .1);
+      whole = unless-true (sound v ring) _ (f .0);
+      shown = unless-true (allShown V2 (kept v ring)) _ (f .1);
       image = sym (given image s (b .1));
     }
 
 pub saved-stored : (v : Volume) (ring s : List ℕ) → TypedJournal v ring → SavedAs v ring s → stored s ≡ some (content v ring)
 saved-stored v ring s t w =
     let k = saved-image v ring s w in
-    ap stored (k .image) ∙ saved-read v ring (t .0) (k .whole) V2 (v .id) (t .1)
+    ap stored (k .image) ∙ saved-read v ring (t .0) (k .whole) V2 (v .id) (t .1) (k .shown)
 
 image-stored : (s : List ℕ) → IsImage s → (i : Image) × (stored s ≡ some i)
 image-stored s (inl (v, ring, id, e)) = loads-stored v ring s id e

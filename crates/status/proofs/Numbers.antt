@@ -8,7 +8,7 @@ use native.Mathlib.Omega.{arith}
 use lib.Dec.{eqb}
 use lib.ListN.{length}
 use Rattle.status.specs.declared.Status.{Status}
-use Rattle.status.specs.declared.Status.the-variants.{Success, BufferOverflow, InvalidParameter, InvalidDeviceRequest, BufferTooSmall, UnknownRevision, DiskFull, FileCorruptError, NotAReparsePoint, VolumeNotUpgraded, JournalDeleteInProgress, JournalNotActive, JournalEntryDeleted}
+use Rattle.status.specs.declared.Status.the-variants.{Success, BufferOverflow, InvalidParameter, InvalidDeviceRequest, BufferTooSmall, UnknownRevision, DiskFull, NotSupported, FileCorruptError, NotAReparsePoint, VolumeNotUpgraded, JournalDeleteInProgress, JournalNotActive, JournalEntryDeleted}
 use Rattle.status.specs.declared.Judged.{Judged}
 use Rattle.status.specs.declared.Judged.the-variants.{Passed, Refused}
 use Rattle.status.specs.Number.{number}
@@ -26,11 +26,12 @@ named n =
     (cond (eqb n 0xC0000023) BufferTooSmall
     (cond (eqb n 0xC0000058) UnknownRevision
     (cond (eqb n 0xC000007F) DiskFull
+    (cond (eqb n 0xC00000BB) NotSupported
     (cond (eqb n 0xC0000102) FileCorruptError
     (cond (eqb n 0xC0000275) NotAReparsePoint
     (cond (eqb n 0xC000029C) VolumeNotUpgraded
     (cond (eqb n 0xC00002B7) JournalDeleteInProgress
-    (cond (eqb n 0xC00002B8) JournalNotActive JournalEntryDeleted)))))))))))
+    (cond (eqb n 0xC00002B8) JournalNotActive JournalEntryDeleted))))))))))))
 
 named-number : (x : Status) → named (number x) ≡ x
 unfolding named
@@ -41,6 +42,7 @@ named-number InvalidDeviceRequest = refl
 named-number BufferTooSmall = refl
 named-number UnknownRevision = refl
 named-number DiskFull = refl
+named-number NotSupported = refl
 named-number FileCorruptError = refl
 named-number NotAReparsePoint = refl
 named-number VolumeNotUpgraded = refl

@@ -1,7 +1,7 @@
 -- The number of each status, as [MS-ERREF] has it.
 use Prim.Native.Nat.{ℕ}
 use Rattle.status.specs.declared.Status.{Status}
-use Rattle.status.specs.declared.Status.the-variants.{Success, BufferOverflow, InvalidParameter, InvalidDeviceRequest, BufferTooSmall, UnknownRevision, DiskFull, FileCorruptError, NotAReparsePoint, VolumeNotUpgraded, JournalDeleteInProgress, JournalNotActive, JournalEntryDeleted}
+use Rattle.status.specs.declared.Status.the-variants.{Success, BufferOverflow, InvalidParameter, InvalidDeviceRequest, BufferTooSmall, UnknownRevision, DiskFull, NotSupported, FileCorruptError, NotAReparsePoint, VolumeNotUpgraded, JournalDeleteInProgress, JournalNotActive, JournalEntryDeleted}
 
 abbrev pub number : Status → ℕ
 number Success = 0
@@ -11,6 +11,7 @@ number InvalidDeviceRequest = 0xC0000010
 number BufferTooSmall = 0xC0000023
 number UnknownRevision = 0xC0000058
 number DiskFull = 0xC000007F
+number NotSupported = 0xC00000BB
 number FileCorruptError = 0xC0000102
 number NotAReparsePoint = 0xC0000275
 number VolumeNotUpgraded = 0xC000029C

@@ -6,7 +6,7 @@ use mathlib.Core.List.{List, [], _∷_, _++_}
 use Prim.Native.Nat.{ℕ}
 use lib.ListN.{replicate}
 use Rattle.le.specs.Numbers.{le, unle, numberAt, encode, decode}
-use Rattle.le.specs.Bytes.{begins}
+use Rattle.le.specs.Bytes.{allZero, begins}
 use Rattle.status.specs.declared.Status.{Status}
 use Rattle.status.specs.declared.Status.the-variants.{Success, InvalidParameter, FileCorruptError}
 use Rattle.volume.specs.State.{goodCapacity, goodPosition}
@@ -14,7 +14,7 @@ use Rattle.names.specs.Names.{goodUnit, goodUnits, goodName}
 use Rattle.usn_record.specs.declared.Version.the-variants.{V3}
 use Rattle.usn_record.specs.Layout.{layout, Record}
 use Rattle.record_reader.specs.Read.{accepted, parseAs, parse}
-use Rattle.records.specs.Records.{recordsIn, records, joined}
+use Rattle.records.specs.Records.{recordsIn, records, joined, allShown}
 use Rattle.ring.specs.Ring.{rotated, placed}
 use Rattle.journal.specs.Kept.{keptBytes, keeps, chained, goodMarks, sound, kept}
 use Rattle.journal.specs.Boundary.{recordsAfter, oldest}
@@ -23,7 +23,7 @@ use Rattle.journal_post.specs.declared.Change.{Change}
 use Rattle.journal_post.specs.Post.{postedName, postCheck, verdict, postedVolume, postedRing}
 use Rattle.journal_post.specs.Posts.{Journal}
 use Rattle.journal_page.specs.Select.{wanted}
-use Rattle.journal_page.specs.Page.{pageOf, pageReply}
+use Rattle.journal_page.specs.Page.{stops, pageOf, pageReply}
 use Rattle.journal_read.specs.Input.{argumentCheck}
 use Rattle.journal_read.specs.Read.{isDeleted, origin, deletedCheck, readAnswer, readReply}
 use Rattle.image.specs.Image.{sealed, imageOf}
@@ -55,22 +55,29 @@ pub is-unsound : Unsound (keeping 0x5C)
 unfolding sound goodMarks goodCapacity goodPosition keptBytes rotated records recordsIn parse parseAs accepted goodName goodUnits goodUnit layout encode decode le unle begins chained keeps
 is-unsound = record { active = refl; unsound = refl }
 
+-- the ids of the file and its parent
+abbrev five : List ℕ
+five = 5 ∷ replicate 15 0
+
+abbrev six : List ℕ
+six = 6 ∷ replicate 15 0
+
 -- and its record is one that `names` speaks of
 abbrev kept-one : Record
 kept-one =
     record {
       version = V3;
-      fields = record { file = 5; parent = 6; usn = 160; time = 0; reason = 0x100; source = 0; security = 0; attributes = 0x20 };
+      fields = record { file = five; parent = six; usn = 160; time = 0; reason = 0x100; source = 0; security = 0; attributes = 0x20 };
       name = 0x5C ∷ 0 ∷ [];
     }
 
 pub names-met : (keptBytes (keeping 0x5C .volume) (keeping 0x5C .ring) ≡ joined (kept-one ∷ [])) × (goodName (kept-one .name) ≡ false)
-unfolding keptBytes rotated joined layout encode le goodName goodUnits goodUnit
+unfolding keptBytes rotated joined layout encode le unle goodName goodUnits goodUnit
 names-met = (refl, refl)
 
 -- a post of the name 'a' and then of 'a\', a read from the oldest record on with a room of 600 bytes, a save
 abbrev change : Change
-change = record { file = 5; parent = 6; time = 0; reason = 0x100; source = 0; security = 0; attributes = 0x20 }
+change = record { file = five; parent = six; time = 0; reason = 0x100; source = 0; security = 0; attributes = 0x20 }
 
 abbrev good : Call
 good = post (record { change = change; name = 0x61 ∷ 0 ∷ [] })
@@ -96,10 +103,10 @@ statuses j (c ∷ cs) = statusOf j c ∷ statuses (next j c) cs
 pub refused-until-anew :
     statuses (keeping 0x5C) (good ∷ all 7 ∷ save 600 ∷ create 8 ∷ delete 7 ∷ finish ∷ create 8 ∷ good ∷ separated ∷ all 8 ∷ save 600 ∷ [])
     ≡ FileCorruptError ∷ FileCorruptError ∷ FileCorruptError ∷ InvalidParameter ∷ Success ∷ Success ∷ Success ∷ Success ∷ InvalidParameter ∷ Success ∷ Success ∷ []
-unfolding verdict postCheck postedName postedVolume postedRing oldest placed rotated sound goodMarks goodCapacity goodPosition kept keptBytes records recordsIn parse parseAs accepted goodName goodUnits goodUnit layout encode decode le unle numberAt begins chained keeps wanted fits pageOf pageReply recordsAfter argumentCheck isDeleted origin deletedCheck readAnswer readReply saveCheck imageReply saveAs imageOf sealed joined
+unfolding verdict postCheck postedName postedVolume postedRing oldest placed rotated sound goodMarks goodCapacity goodPosition kept keptBytes records recordsIn parse parseAs accepted goodName goodUnits goodUnit layout encode decode le unle numberAt begins chained keeps wanted allZero fits stops pageOf pageReply recordsAfter argumentCheck isDeleted origin deletedCheck readAnswer readReply saveCheck imageReply saveAs imageOf sealed joined allShown
 refused-until-anew = refl
 
 -- with another name it is not
 pub not-refused : statuses (keeping 0x5D) (good ∷ all 7 ∷ save 600 ∷ separated ∷ []) ≡ Success ∷ Success ∷ Success ∷ InvalidParameter ∷ []
-unfolding verdict postCheck postedName postedVolume postedRing oldest placed rotated sound goodMarks goodCapacity goodPosition kept keptBytes records recordsIn parse parseAs accepted goodName goodUnits goodUnit layout encode decode le unle numberAt begins chained keeps wanted fits pageOf pageReply recordsAfter argumentCheck isDeleted origin deletedCheck readAnswer readReply saveCheck imageReply saveAs imageOf sealed joined
+unfolding verdict postCheck postedName postedVolume postedRing oldest placed rotated sound goodMarks goodCapacity goodPosition kept keptBytes records recordsIn parse parseAs accepted goodName goodUnits goodUnit layout encode decode le unle numberAt begins chained keeps wanted allZero fits stops pageOf pageReply recordsAfter argumentCheck isDeleted origin deletedCheck readAnswer readReply saveCheck imageReply saveAs imageOf sealed joined allShown
 not-refused = refl

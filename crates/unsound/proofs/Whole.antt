@@ -16,7 +16,7 @@ use Rattle.le.specs.Numbers.{le, unle, encode, decode}
 use Rattle.le.proofs.Numbers.{length-le, unle-le}
 use Rattle.le.proofs.Runs.{begins-append}
 use Rattle.status.specs.declared.Status.{Status}
-use Rattle.status.specs.declared.Status.the-variants.{Success, InvalidParameter, InvalidDeviceRequest, FileCorruptError, JournalDeleteInProgress, JournalNotActive}
+use Rattle.status.specs.declared.Status.the-variants.{Success, InvalidParameter, InvalidDeviceRequest, NotSupported, FileCorruptError, JournalDeleteInProgress, JournalNotActive}
 use Rattle.status.specs.Check.{unless, else}
 use Rattle.status.specs.Reply.{guard, answer}
 use Rattle.volume.specs.declared.Volume.{Volume}
@@ -31,7 +31,7 @@ use Rattle.usn_record.proofs.Record.{number-range, length-fields, length-layout
 use Rattle.record_reader.specs.Read.{candidate, parse}
 use Rattle.record_reader.proofs.Judge.{taken}
 use Rattle.record_reader.proofs.RoundTrip.{version-begins, parsed}
-use Rattle.records.specs.Records.{Records, whole, bad, recordList, records, joined}
+use Rattle.records.specs.Records.{Records, whole, bad, recordList, records, joined, allShown}
 use Rattle.records.proofs.Runs.{record-long, tail-cons}
 use Rattle.journal.specs.Kept.{keptBytes, inChain, sound, kept}
 use Rattle.journal.proofs.Walks.{not-both}
@@ -225,9 +225,10 @@ module _ (j : Journal) (u : Unsound j) where
   save-corrupt : (room : ℕ) → supported (v .journal) ≡ true → statusOf j (save room) ≡ FileCorruptError
   unfolding saveAs saveCheck
   save-corrupt room e =
-      let c : saveCheck v (j .ring) ≡ some FileCorruptError =
-      ap₂ (λ (s : Bool) (o : Option Status). else (unless s InvalidDeviceRequest) (else o (unless (sound v (j .ring)) FileCorruptError))) e (active-none v (u .active))
-      ∙ ap (λ (b : Bool). unless b FileCorruptError) (u .unsound) in
+      let ids : Option Status = unless (allShown V2 (kept v (j .ring))) NotSupported in
+      let c : saveCheck V2 v (j .ring) ≡ some FileCorruptError =
+      ap₂ (λ (s : Bool) (o : Option Status). else (unless s InvalidDeviceRequest) (else o (else (unless (sound v (j .ring)) FileCorruptError) ids))) e (active-none v (u .active))
+      ∙ ap (λ (b : Bool). else (unless b FileCorruptError) ids) (u .unsound) in
       ap (λ (o : Option Status). answer (guard o (imageReply (imageOf V2 (content v (j .ring))) room)) .status) c
 
   delete-done : statusOf j (delete (v .id)) ≡ Success

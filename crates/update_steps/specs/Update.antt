@@ -1,6 +1,7 @@
 -- An update of three files, and the journal that it is posted to.
 use mathlib.Core.List.{List, [], _∷_}
 use Prim.Native.Nat.{ℕ, zero, suc, _-_, _/_, _%_}
+use Rattle.file_ids.specs.Ids.{idBytes}
 use Rattle.volume.specs.declared.Volume.{Volume}
 use Rattle.journal_post.specs.Posts.{Journal, Posting, afterPosts}
 
@@ -31,7 +32,7 @@ limits = 108 ∷ 0 ∷ 105 ∷ 0 ∷ 109 ∷ 0 ∷ 105 ∷ 0 ∷ 116 ∷ 0 ∷ 1
 abbrev pub posting : ℕ → ℕ → List ℕ → Posting
 posting file reason name =
     record {
-      change = record { file = file; parent = 5; time = 0; reason = reason; source = 0; security = 0; attributes = 32 };
+      change = record { file = idBytes file; parent = idBytes 5; time = 0; reason = reason; source = 0; security = 0; attributes = 32 };
       name = name;
     }
 

@@ -10,6 +10,7 @@ ghost use Rattle.journal_post.specs.Posts.{afterPost};
 ghost use Rattle.update_steps.specs.Update.{idleVolume, posting, reasonAt, changeAt, updated};
 ghost use Rattle.update_steps.specs.Service.{inputOf, replyFrom, readTo, readsTo};
 use case_rows::print;
+use file_ids::id_of;
 use journal_post::Change;
 use status::Answer;
 use status::Status;
@@ -57,8 +58,8 @@ fn post(v: Volume, ring: &mut [u8], file: u64, reason: u32, name: &[u8]) -> Volu
     ensures { λ r. ⌜ (record { volume = r; ring = now (ring .exit) }) ≡ afterPost (record { volume = v; ring = now (ring .entry) }) (posting file reason (now (name .entry))) ⌝ }
 {
     let c = Change {
-        file,
-        parent: 5,
+        file: id_of(file),
+        parent: id_of(5),
         time: 0,
         reason,
         source: 0,

@@ -1,14 +1,14 @@
 //! The three controls over a file record: USN data, regions, reparse point.
 
 use crate::bytes::{put_u16, put_u32, put_u64, u16_at, u32_at, u64_at};
-use crate::record::{has_good_units, write, Change, Version, LONGEST_NAME, MAX_USN};
+use crate::record::{has_good_units, is_wide, write, Change, Version, LONGEST_NAME, MAX_USN};
 use crate::{answer, status, Volume};
 
 /// A file record.
 #[derive(Clone, Copy, Debug, Default, PartialEq, Eq)]
 pub struct File {
     /// The file's id.
-    pub id: u64,
+    pub id: u128,
     /// Usn of its last change.
     pub usn: u64,
     /// End of file.
@@ -60,7 +60,7 @@ const REGION: usize = 24;
 pub fn read_file(
     volume: &Volume,
     file: &File,
-    parent: u64,
+    parent: u128,
     pool: &[u8],
     links: &[Link],
     input: &[u8],
@@ -73,7 +73,7 @@ pub fn read_file(
 fn usn_data(
     volume: &Volume,
     file: &File,
-    parent: u64,
+    parent: u128,
     pool: &[u8],
     links: &[Link],
     input: &[u8],
@@ -93,8 +93,14 @@ fn usn_data(
     };
     // The structure's own size is that of a record with a name of two bytes,
     // and it is asked for even if the name is empty.
+    if output.len() < version.length(2) {
+        return Err(status::BUFFER_TOO_SMALL);
+    }
+    if version == Version::V2 && (is_wide(file.id) || is_wide(parent)) {
+        return Err(status::NOT_SUPPORTED);
+    }
     let length = version.length(name.len());
-    if output.len() < version.length(2).max(length) {
+    if output.len() < length {
         return Err(status::BUFFER_TOO_SMALL);
     }
     let change = Change {

@@ -4,6 +4,9 @@
 //! Every call ends with one of the numbers in [`status`]. `BUFFER_OVERFLOW` is a
 //! warning, and comes with the part of the reply that fits. Any answer other than
 //! it and `SUCCESS` reports 0 bytes and changes nothing. No call allocates.
+//!
+//! An id is a number of 128 bits. V3 records hold all of it, V2 records the lower
+//! 64; an id with more of them is called wide, and no V2 record shows it.
 
 #![forbid(unsafe_code)]
 #![warn(missing_docs)]

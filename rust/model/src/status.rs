@@ -15,6 +15,8 @@ pub const BUFFER_TOO_SMALL: u32 = 0xC000_0023;
 pub const UNKNOWN_REVISION: u32 = 0xC000_0058;
 /// No position is left for the record, or the ring has no room for the image's records.
 pub const DISK_FULL: u32 = 0xC000_007F;
+/// An id has more than 64 bits and cannot be shown in V2.
+pub const NOT_SUPPORTED: u32 = 0xC000_00BB;
 /// A file record, the volume record, the ring or the image is not sound.
 pub const FILE_CORRUPT_ERROR: u32 = 0xC000_0102;
 /// The file has no reparse point.

@@ -68,9 +68,9 @@ fn region_reply(regions: &[(u64, u64, u32)]) -> Vec<u8> {
 
 /// The record's bytes, built field by field.
 fn plain(version: u16, c: &Change, usn: u64, name: &[u8]) -> Vec<u8> {
-    let id = |id: u64| match version {
-        2 => id.to_le_bytes().to_vec(),
-        _ => (id as u128).to_le_bytes().to_vec(),
+    let id = |id: u128| match version {
+        2 => id.to_le_bytes()[..8].to_vec(),
+        _ => id.to_le_bytes().to_vec(),
     };
     let mut r = vec![0; 4];
     r.extend(version.to_le_bytes());
@@ -504,12 +504,13 @@ fn read_order() {
     assert_eq!(read(&v, &ring, &ask(0, 1 << 31, 0, 3, None), 8), SUCCESS);
     // A bit changed is noticed everywhere but in fields that may hold any value
     // (ids, time, source, security, name) or any value but 0 (Reason, attributes).
-    // The second record looked at runs over the ring's end.
+    // The second record looked at runs over the ring's end. None is selected, so
+    // ids that V2 cannot show do no harm.
     for (record, at) in [160, 960]
         .iter()
         .flat_map(|r| (0..80).map(move |at| (r, at)))
     {
-        let free = matches!(at, 8..=15 | 24..=31 | 48..=71 | 76..=77);
+        let free = matches!(at, 8..=39 | 48..=71 | 76..=77);
         let place = (record + at) % 1024;
         ring[place] ^= 0x40;
         let status = if free { SUCCESS } else { FILE_CORRUPT_ERROR };
@@ -1329,8 +1330,8 @@ fn random_images() {
         let mut list: Vec<(Change, u64, Vec<u8>)> = vec![];
         for _ in 0..random.below(200) {
             let c = Change {
-                file: random.below(1 << 31) << 33,
-                parent: random.below(1 << 31),
+                file: u128::from(random.below(1 << 31) << 33),
+                parent: u128::from(random.below(1 << 31)),
                 time: random.below(1 << 31) << 40,
                 reason: 1 + random.below(1 << 31) as u32,
                 source: random.below(1 << 31) as u32,
@@ -1776,6 +1777,338 @@ fn names_loaded() {
     assert_eq!(status, UNKNOWN_REVISION);
 }
 
+/// Ids with each bit of the upper eight bytes alone, over all bits of the lower.
+fn wide_ids() -> impl Iterator<Item = u128> {
+    (64..128).map(|bit| 1 << bit | u128::from(u64::MAX))
+}
+
+/// The ids of a file and its parent of which one or both are wide.
+fn wide_pairs() -> impl Iterator<Item = (u128, u128)> {
+    wide_ids().flat_map(|id| [(id, 6), (5, id), (id, id)])
+}
+
+/// A change with those ids.
+fn change_of(reason: u32, (file, parent): (u128, u128)) -> Change {
+    Change {
+        file,
+        parent,
+        ..change(reason)
+    }
+}
+
+/// A journal from position 4,000 on, with a record of a two-byte name for each of
+/// the changes. Its ring ends 96 bytes behind the beginning.
+fn posted(changes: &[Change]) -> (Volume, Vec<u8>) {
+    let mut v = Volume {
+        last: 4000,
+        ..volume(4096)
+    };
+    let mut ring = vec![0xAA; 4096];
+    assert_eq!(create(&mut v, 3), SUCCESS);
+    for c in changes {
+        let status = post(&mut v, &mut ring, c, b"a\0", &mut 0);
+        assert_eq!(status, SUCCESS);
+    }
+    (v, ring)
+}
+
+/// The reply with that position and records, which a journal of `posted` has from
+/// number `from` on.
+fn reply_of(version: u16, position: u64, from: u64, changes: &[Change]) -> Vec<u8> {
+    let mut reply = position.to_le_bytes().to_vec();
+    for (number, c) in (from + 1..).zip(changes) {
+        reply.extend(plain(version, c, 4000 + 80 * number, b"a\0"));
+    }
+    reply
+}
+
+/// A record with two wide ids as the ring keeps it and as V3 shows it.
+const WIDE_KEPT: [u8; 80] = [
+    0x50, 0x00, 0x00, 0x00, // RecordLength
+    0x03, 0x00, 0x00, 0x00, // version 3.0
+    0x01, 0x02, 0x03, 0x04, 0x05, 0x06, 0x07, 0x08, // file id
+    0x09, 0x0A, 0x0B, 0x0C, 0x0D, 0x0E, 0x0F, 0x10, // its upper half
+    0x11, 0x12, 0x13, 0x14, 0x15, 0x16, 0x17, 0x18, // parent id
+    0x19, 0x1A, 0x1B, 0x1C, 0x1D, 0x1E, 0x1F, 0x20, // its upper half
+    0x50, 0x10, 0x00, 0x00, 0x00, 0x00, 0x00, 0x00, // Usn: 4,096 + 80
+    0xF0, 0xF1, 0xF2, 0xF3, 0xF4, 0xF5, 0xF6, 0xF7, // TimeStamp
+    0x00, 0x01, 0x00, 0x80, // Reason
+    0x21, 0x22, 0x23, 0x24, // SourceInfo
+    0x31, 0x32, 0x33, 0x34, // SecurityId
+    0x20, 0x00, 0x00, 0x00, // attributes
+    0x04, 0x00, 0x4C, 0x00, // FileNameLength, FileNameOffset
+    0x61, 0x00, 0x62, 0x00, // name
+];
+
+/// What `WIDE_KEPT` says.
+const WIDE_CHANGE: Change = Change {
+    file: 0x100F_0E0D_0C0B_0A09_0807_0605_0403_0201,
+    parent: 0x201F_1E1D_1C1B_1A19_1817_1615_1413_1211,
+    time: 0xF7F6_F5F4_F3F2_F1F0,
+    reason: 0x8000_0100,
+    source: 0x2423_2221,
+    security: 0x3433_3231,
+    attributes: 0x20,
+};
+
+#[test]
+fn id_bytes() {
+    assert_eq!(NOT_SUPPORTED, 0xC000_00BB);
+    let mut v = Volume {
+        last: 4096,
+        ..volume(4096)
+    };
+    let mut ring = vec![0xAA; 4096];
+    assert_eq!(create(&mut v, 3), SUCCESS);
+    let status = post(&mut v, &mut ring, &WIDE_CHANGE, b"a\0b\0", &mut 0);
+    assert_eq!((status, v.last), (SUCCESS, 4176));
+    assert_eq!(ring[..80], WIDE_KEPT);
+    assert!(ring[80..].iter().all(|&b| b == 0xAA));
+
+    let reply = [&4176u64.to_le_bytes()[..], &WIDE_KEPT].concat();
+    let asked = |max| ask(0, u32::MAX, 0, 3, Some((2, max)));
+    assert_eq!(read(&v, &ring, &asked(3), 88), (SUCCESS, reply.clone()));
+    assert_eq!(read(&v, &ring, &asked(2), 88), (NOT_SUPPORTED, vec![]));
+    assert_eq!(walk_reply(&reply), Ok((4176, 1)));
+    assert_eq!(
+        text(&reply),
+        "next 4176\n4176 80000100 61006200\nrecords 1\n"
+    );
+
+    let read = Record {
+        version: 3,
+        file: WIDE_CHANGE.file,
+        parent: WIDE_CHANGE.parent,
+        usn: 4176,
+        time: WIDE_CHANGE.time,
+        reason: WIDE_CHANGE.reason,
+        source: WIDE_CHANGE.source,
+        security: WIDE_CHANGE.security,
+        attributes: WIDE_CHANGE.attributes,
+        name: 76,
+        length: 4,
+        next: 80,
+    };
+    assert_eq!(read_record(&WIDE_KEPT, 0), Some(read));
+    // Each byte of both ids is read at its place and may be any number.
+    for byte in 0..16 {
+        for value in [0x00, 0x01, 0x80, 0xFF] {
+            let put = |id: u128| {
+                let mut bytes = id.to_le_bytes();
+                bytes[byte] = value;
+                u128::from_le_bytes(bytes)
+            };
+            let mut other = WIDE_KEPT;
+            other[8 + byte] = value;
+            let file = put(read.file);
+            assert_eq!(read_record(&other, 0), Some(Record { file, ..read }));
+            other = WIDE_KEPT;
+            other[24 + byte] = value;
+            let parent = put(read.parent);
+            assert_eq!(read_record(&other, 0), Some(Record { parent, ..read }));
+        }
+    }
+}
+
+/// A V2 record has eight bytes of each id, and they may be any.
+#[test]
+fn ids_in_two_versions() {
+    let narrow = u128::from(u64::MAX);
+    let c = change_of(1, (narrow, narrow - 1));
+    for version in [2, 3] {
+        let record = plain(version, &c, 80, b"a\0");
+        let read = read_record(&record, 0).unwrap();
+        assert_eq!((read.file, read.parent), (narrow, narrow - 1));
+    }
+    let (v, ring) = posted(&[c]);
+    for max in [2, 3] {
+        let asked = ask(0, 1, 0, 3, Some((2, max)));
+        let reply = reply_of(max, 4080, 0, &[c]);
+        assert_eq!(read(&v, &ring, &asked, 88), (SUCCESS, reply));
+    }
+    assert_eq!(save(&v, &ring, 96).0, SUCCESS);
+}
+
+/// Three records, each in turn with a wide id: a V2 reply stops before it, or the
+/// read is refused if nothing is before it, whatever the room is. The second
+/// record runs over the ring's end.
+#[test]
+fn ids_in_a_read() {
+    for pair in wide_pairs() {
+        for wide in 0..3 {
+            let mut changes = [change(1), change(2), change(4)];
+            changes[wide] = change_of(1 << wide, pair);
+            let (v, ring) = posted(&changes);
+            let before = &changes[..wide];
+            let begin = 4000 + 80 * wide as u64;
+            let asked = |start, mask, max| ask(start, mask, 0, 3, Some((2, max)));
+
+            // All are selected.
+            for size in 8..=250 {
+                let fitting = ((size - 8) / 64).min(wide);
+                let got = read(&v, &ring, &asked(0, 7, 2), size);
+                let expected = match (fitting, wide) {
+                    (0, 0) => (NOT_SUPPORTED, vec![]),
+                    (0, _) => (BUFFER_TOO_SMALL, vec![]),
+                    _ => {
+                        let position = 4000 + 80 * fitting as u64;
+                        (SUCCESS, reply_of(2, position, 0, &before[..fitting]))
+                    }
+                };
+                assert_eq!(got, expected, "{pair:x?} {wide} {size}");
+            }
+            // From the record on: refused in V2, shown in V3.
+            for size in 8..=250 {
+                let got = read(&v, &ring, &asked(begin, 7, 2), size);
+                assert_eq!(got, (NOT_SUPPORTED, vec![]), "{pair:x?} {wide} {size}");
+            }
+            let rest = reply_of(3, 4240, wide as u64, &changes[wide..]);
+            let got = read(&v, &ring, &asked(begin, 7, 3), 248);
+            assert_eq!(got, (SUCCESS, rest));
+            // What is not selected, or before the start, does no harm.
+            for number in 0..3 {
+                let got = read(&v, &ring, &asked(0, 1 << number, 2), 72);
+                let one = &changes[number..=number];
+                let expected = match number == wide {
+                    true => (NOT_SUPPORTED, vec![]),
+                    false => (SUCCESS, reply_of(2, 4240, number as u64, one)),
+                };
+                assert_eq!(got, expected, "{pair:x?} {wide} {number}");
+            }
+            let behind = reply_of(2, 4240, wide as u64 + 1, &changes[wide + 1..]);
+            let got = read(&v, &ring, &asked(begin + 80, 7, 2), 600);
+            assert_eq!(got, (SUCCESS, behind));
+            let none = 4240u64.to_le_bytes().to_vec();
+            assert_eq!(read(&v, &ring, &asked(0, 8, 2), 8), (SUCCESS, none));
+        }
+    }
+}
+
+/// The refusal comes behind all others but that for the record's room.
+#[test]
+fn ids_in_a_read_order() {
+    let wide = change_of(1, (1 << 64, 6));
+    let (v, ring) = posted(&[change(1), wide, wide]);
+    let status = |v: &Volume, start, id, versions, size| {
+        read(v, &ring, &ask(start, 1, 0, id, versions), size).0
+    };
+    let two = Some((2, 2));
+    assert_eq!(status(&v, 4080, 3, two, 7), BUFFER_TOO_SMALL);
+    assert_eq!(status(&v, 4080, 3, Some((3, 2)), 8), INVALID_PARAMETER);
+    assert_eq!(status(&v, 4080, 4, two, 8), INVALID_PARAMETER);
+    let unsound = Volume { last: 4248, ..v };
+    assert_eq!(status(&unsound, 4080, 3, two, 8), FILE_CORRUPT_ERROR);
+    let dropped = Volume { first: 4160, ..v };
+    assert_eq!(status(&dropped, 4080, 3, two, 8), JOURNAL_ENTRY_DELETED);
+    assert_eq!(status(&v, 4088, 3, two, 8), INVALID_PARAMETER);
+    assert_eq!(status(&v, 4248, 3, two, 8), INVALID_PARAMETER);
+    for size in 8..=100 {
+        // Without a pair of versions the version is 2.
+        assert_eq!(status(&v, 4080, 3, None, size), NOT_SUPPORTED);
+        assert_eq!(status(&v, 4080, 3, two, size), NOT_SUPPORTED);
+        let due = if size < 88 { BUFFER_TOO_SMALL } else { SUCCESS };
+        assert_eq!(status(&v, 4080, 3, Some((2, 3)), size), due);
+    }
+}
+
+#[test]
+fn ids_in_a_file_read() {
+    let v = volume(0);
+    let links = [Link {
+        place: 0,
+        length: 20,
+        short: 0,
+    }];
+    let pool = [0x61; 20];
+    let narrow = u128::from(u64::MAX);
+    for (id, parent) in wide_pairs().chain([(narrow, narrow)]) {
+        let wide = id > narrow || parent > narrow;
+        let f = File {
+            id,
+            usn: 8,
+            ..File::default()
+        };
+        let c = Change {
+            file: id,
+            parent,
+            ..Change::default()
+        };
+        for (input, version) in [(&[][..], 2), (&[2, 0, 2, 0], 2), (&[2, 0, 3, 0], 3)] {
+            for size in 0..=100 {
+                let mut output = vec![0xCC; size];
+                let (status, count) = read_file(&v, &f, parent, &pool, &links, input, &mut output);
+                assert!(output[count..].iter().all(|&b| b == 0xCC));
+                let expected = match (version, size) {
+                    (2, ..64) | (3, ..96) => BUFFER_TOO_SMALL,
+                    (2, _) if wide => NOT_SUPPORTED,
+                    (2, ..80) => BUFFER_TOO_SMALL,
+                    _ => SUCCESS,
+                };
+                assert_eq!(status, expected, "{id:x} {parent:x} {version} {size}");
+                if status == SUCCESS {
+                    assert_eq!(output[..count], plain(version, &c, 8, &pool));
+                }
+            }
+        }
+    }
+    // Behind the file record, the links and the versions.
+    let mut output = [0; 600];
+    let mut status = |usn, pool: &[u8], input: &[u8]| {
+        let f = File {
+            id: 1 << 127,
+            usn,
+            ..File::default()
+        };
+        read_file(&v, &f, 1 << 64, pool, &links, input, &mut output).0
+    };
+    assert_eq!(status(1 << 63, &pool, &[]), FILE_CORRUPT_ERROR);
+    assert_eq!(status(8, &pool[1..], &[]), FILE_CORRUPT_ERROR);
+    assert_eq!(status(8, &pool, &[3, 0, 2, 0]), INVALID_PARAMETER);
+    assert_eq!(status(8, &pool, &[0, 0, 2, 0]), NOT_SUPPORTED);
+}
+
+/// No image is written while a record with a wide id is kept: the first of three,
+/// the next or the last.
+#[test]
+fn ids_in_a_save() {
+    for pair in wide_pairs() {
+        for wide in 0..3 {
+            let mut changes = [change(1); 3];
+            changes[wide] = change_of(1, pair);
+            let (v, ring) = posted(&changes);
+            // The image would have 224 bytes.
+            for size in [0, 31, 32, 223, 224, 5000] {
+                assert_eq!(save(&v, &ring, size), (NOT_SUPPORTED, vec![]));
+            }
+            let unsound = Volume { last: 4248, ..v };
+            assert_eq!(save(&unsound, &ring, 5000).0, FILE_CORRUPT_ERROR);
+            let deleting = Volume { state: 2, ..v };
+            assert_eq!(save(&deleting, &ring, 5000).0, JOURNAL_DELETE_IN_PROGRESS);
+            // It is kept no longer.
+            let first = 4080 + 80 * wide as u64;
+            let behind = Volume { first, ..v };
+            assert_eq!(save(&behind, &ring, 5000).0, SUCCESS);
+        }
+    }
+    let (v, ring) = posted(&[change(1); 3]);
+    assert_eq!(save(&v, &ring, 223).0, BUFFER_TOO_SMALL);
+    assert_eq!(save(&v, &ring, 224).0, SUCCESS);
+}
+
+/// What an image holds is read back with upper bytes of zero.
+#[test]
+fn ids_in_an_image() {
+    let c = change_of(1, (u128::from(u64::MAX), u128::from(u64::MAX)));
+    let (v, ring) = posted(&[c]);
+    let (status, image) = save(&v, &ring, 96);
+    assert_eq!(status, SUCCESS);
+    assert_eq!(image[8..24], [0xFF; 16]);
+    let (status, w, kept) = load_under(&volume(1024), &[0xAA; 1024], &image, 4);
+    assert_eq!((status, w.last), (SUCCESS, 4080));
+    // 4,000 is 3 * 1,024 + 928.
+    assert_eq!(kept[928..1008], plain(3, &c, 4080, b"a\0"));
+}
+
 /// A small generator of random numbers.
 struct Random(u64);
 
@@ -1802,6 +2135,9 @@ impl Random {
 #[test]
 fn random_calls() {
     let mut random = Random(1);
+    // Replies that stop before a record with a wide id, and reads that are
+    // refused for one and for their room.
+    let mut seen = [0; 3];
     for round in 0..40u64 {
         let capacity = [1024, 1032, 1480, 4096][round as usize % 4];
         let mut v = Volume {
@@ -1815,6 +2151,12 @@ fn random_calls() {
         for _ in 0..150 {
             let mut c = change(1 + random.below(7) as u32 + ((random.below(2) as u32) << 31));
             c.attributes = random.below(2) as u32;
+            let byte = 1 << (64 + 8 * random.below(8));
+            match random.below(20) {
+                0 => c.file |= byte,
+                1 => c.parent |= byte,
+                _ => {}
+            }
             let size = if random.below(4) == 0 { 256 } else { 12 };
             let name: Vec<u8> = (0..2 * random.below(size)).map(|b| b as u8 | 1).collect();
             let mut usn = 0;
@@ -1859,28 +2201,38 @@ fn random_calls() {
             }
             let mut records = vec![];
             let mut position = v.last;
-            let mut refused = false;
+            let mut stopped = None;
             for (c, usn, name) in list.iter().filter(|r| r.1 > from) {
                 if c.reason & mask == 0 || (close != 0 && c.reason >> 31 == 0) {
                     continue;
                 }
                 let bytes = plain(version, c, *usn, name);
-                if 8 + records.len() + bytes.len() > size {
-                    refused = records.is_empty();
+                if version == 2 && (c.file >> 64 != 0 || c.parent >> 64 != 0) {
+                    stopped = Some(NOT_SUPPORTED);
+                } else if 8 + records.len() + bytes.len() > size {
+                    stopped = Some(BUFFER_TOO_SMALL);
+                }
+                if stopped.is_some() {
                     position = usn - plain(3, c, *usn, name).len() as u64;
                     break;
                 }
                 records.extend(bytes);
             }
             let reply = [&position.to_le_bytes()[..], &records].concat();
-            let expected = if refused {
-                (BUFFER_TOO_SMALL, vec![])
-            } else {
-                (SUCCESS, reply)
+            let expected = match stopped {
+                Some(status) if records.is_empty() => (status, vec![]),
+                _ => (SUCCESS, reply),
             };
             assert_eq!(got, expected);
+            match (got.0, stopped) {
+                (SUCCESS, Some(NOT_SUPPORTED)) => seen[0] += 1,
+                (NOT_SUPPORTED, _) => seen[1] += 1,
+                (BUFFER_TOO_SMALL, _) => seen[2] += 1,
+                _ => {}
+            }
         }
     }
+    assert!(seen.iter().all(|&count| count > 100), "{seen:?}");
 }
 
 /// No call panics on garbage, and a refusal changes nothing.

@@ -1,9 +1,9 @@
 //! What the tests share: random numbers, the seed, counts of statuses, lent
-//! buffers with guard bytes, names, and the layout of a record.
+//! buffers with guard bytes, names, ids, and the layout of a record.
 
 #![allow(dead_code)]
 
-use lanhduxe::{Change, FileRecord, Link, Record, Status, Volume};
+use lanhduxe::{Change, FileId, FileRecord, Link, Record, Status, Volume};
 use std::fmt;
 
 /// 2^63, the first pattern that is negative.
@@ -171,21 +171,23 @@ impl Counts {
 pub mod expected {
     use lanhduxe::Status::{self, *};
 
-    pub const JOURNAL: [Status; 9] = [
+    pub const JOURNAL: [Status; 10] = [
         Success,
         InvalidParameter,
         InvalidDeviceRequest,
         BufferTooSmall,
         DiskFull,
+        NotSupported,
         FileCorruptError,
         JournalDeleteInProgress,
         JournalNotActive,
         JournalEntryDeleted,
     ];
-    pub const SAVE: [Status; 6] = [
+    pub const SAVE: [Status; 7] = [
         Success,
         InvalidDeviceRequest,
         BufferTooSmall,
+        NotSupported,
         FileCorruptError,
         JournalDeleteInProgress,
         JournalNotActive,
@@ -199,11 +201,12 @@ pub mod expected {
         FileCorruptError,
         JournalDeleteInProgress,
     ];
-    pub const FILE: [Status; 5] = [
+    pub const FILE: [Status; 6] = [
         Success,
         InvalidParameter,
         InvalidDeviceRequest,
         BufferTooSmall,
+        NotSupported,
         FileCorruptError,
     ];
     pub const REGIONS: [Status; 6] = [
@@ -318,8 +321,8 @@ pub fn model_volume(volume: &Volume) -> model::Volume {
 
 pub fn model_change(change: &Change) -> model::Change {
     model::Change {
-        file: change.file,
-        parent: change.parent,
+        file: change.file.number(),
+        parent: change.parent.number(),
         time: change.time,
         reason: change.reason,
         source: change.source,
@@ -330,7 +333,7 @@ pub fn model_change(change: &Change) -> model::Change {
 
 pub fn model_file(file: &FileRecord) -> model::File {
     model::File {
-        id: file.id,
+        id: file.id.number(),
         usn: file.usn,
         eof: file.eof,
         valid: file.valid,
@@ -370,7 +373,13 @@ pub fn record_length(version: u16, name: usize) -> usize {
     (fixed + name).div_ceil(8) * 8
 }
 
-/// A record's bytes in a version, as its layout has them.
+/// Whether version 2 cannot show a change.
+pub fn is_wide(change: &Change) -> bool {
+    change.file.is_wide() || change.parent.is_wide()
+}
+
+/// A record's bytes in a version, as its layout has them. Version 2 has the lower
+/// eight bytes of an id.
 pub fn lay_out(version: u16, change: &Change, usn: u64, name: &[u8]) -> Vec<u8> {
     let length = record_length(version, name.len());
     let offset: u16 = if version == 2 { 60 } else { 76 };
@@ -383,11 +392,9 @@ pub fn lay_out(version: u16, change: &Change, usn: u64, name: &[u8]) -> Vec<u8> 
     bytes.extend((length as u32).to_le_bytes());
     bytes.extend(version.to_le_bytes());
     bytes.extend(0u16.to_le_bytes());
+    let width = if version == 2 { 8 } else { 16 };
     for id in [change.file, change.parent] {
-        bytes.extend(id.to_le_bytes());
-        if version == 3 {
-            bytes.extend([0; 8]);
-        }
+        bytes.extend(&id.bytes[..width]);
     }
     bytes.extend(usn.to_le_bytes());
     bytes.extend(change.time.to_le_bytes());
@@ -604,8 +611,8 @@ pub fn plant(name: &mut [u8], place: usize, unit: u16) {
 
 /// The change that is in every record made by hand.
 pub const CHANGE: Change = Change {
-    file: 41,
-    parent: 5,
+    file: FileId::new(41),
+    parent: FileId::new(5),
     time: 0x1234_5678_9ABC_DEF0,
     reason: 0x8000_0102,
     source: 1,
@@ -613,11 +620,60 @@ pub const CHANGE: Change = Change {
     attributes: 0x20,
 };
 
-/// The fields of a change.
+/// An id that version 2 can show.
+pub fn narrow_id(rng: &mut Rng) -> FileId {
+    rng.long().into()
+}
+
+/// An id that version 2 cannot show: with one of the upper eight bytes, or just
+/// one bit of them, or with sixteen random bytes.
+pub fn wide_id(rng: &mut Rng) -> FileId {
+    let mut id = narrow_id(rng);
+    let upper = &mut id.bytes[8 + rng.below(8) as usize];
+    match rng.below(4) {
+        0 => *upper = 1 << rng.below(8),
+        1..=2 => *upper = rng.between(1, 255) as u8,
+        _ => {
+            rng.fill(&mut id.bytes);
+            id.bytes[15] |= 1;
+        }
+    }
+    id
+}
+
+/// The ids of a file and its parent. `wide` times out of a hundred one of them is
+/// wide, or both are, with the same upper bytes or with others.
+pub fn ids(rng: &mut Rng, wide: u64) -> (FileId, FileId) {
+    let (file, parent) = (narrow_id(rng), narrow_id(rng));
+    if !rng.percent(wide) {
+        return (file, parent);
+    }
+    let id = wide_id(rng);
+    match rng.below(6) {
+        0..=1 => (id, parent),
+        2..=3 => (file, id),
+        4 => (id, id),
+        _ => (id, wide_id(rng)),
+    }
+}
+
+/// How often a journal's records have a wide id, out of a hundred: never, now and
+/// then, often, always.
+pub fn share_of_wide(rng: &mut Rng) -> u64 {
+    rng.pick(&[0, 0, 0, 2, 5, 10, 30, 100])
+}
+
+/// The fields of a change that version 2 can show.
 pub fn change(rng: &mut Rng) -> Change {
+    any_change(rng, 0)
+}
+
+/// The fields of a change, `wide` times out of a hundred with a wide id.
+pub fn any_change(rng: &mut Rng, wide: u64) -> Change {
+    let (file, parent) = ids(rng, wide);
     Change {
-        file: rng.long(),
-        parent: rng.long(),
+        file,
+        parent,
         time: rng.long(),
         reason: reason(rng),
         source: rng.word(),

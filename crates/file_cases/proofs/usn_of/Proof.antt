@@ -20,5 +20,5 @@ usn-of-spec =
     tie.close
     (tie.spec (λ c. omega arith) (λ c κs. omega arith) (λ c κs. omega arith) (λ c κs. omega arith) (λ c κs. omega arith) (λ c κs. omega arith)
     (λ c κs. omega arith) (λ c κs. omega arith) (λ c κs. omega arith) (λ c κs. omega arith) (λ c κs. omega arith) (λ c κs. omega arith)
-    slice-aggregate-read-file-usn (λ c. omega arith) slice-aggregate-read-file-usn-2 (λ c. omega arith) slice-aggregate-read-file-usn-3
+    (λ c κs. omega arith) slice-aggregate-read-file-usn (λ c. omega arith) slice-aggregate-read-file-usn-2 (λ c. omega arith) slice-aggregate-read-file-usn-3
     (λ c κs. omega arith) (λ c. omega arith) (λ c κs. omega arith) (λ c. omega arith) (λ c. omega arith))

@@ -9,11 +9,11 @@ use lib.Dec.{leb, ltb}
 use lib.ListN.{length}
 use Rattle.le.proofs.Runs.{and-right}
 use Rattle.status.specs.declared.Status.{Status}
-use Rattle.status.specs.declared.Status.the-variants.{InvalidDeviceRequest, BufferTooSmall, FileCorruptError}
+use Rattle.status.specs.declared.Status.the-variants.{InvalidDeviceRequest, BufferTooSmall, NotSupported, FileCorruptError}
 use Rattle.status.specs.Check.{unless, else}
 use Rattle.status.proofs.Checking.{else-left, else-right, unless-true}
 use Rattle.volume.specs.State.{supported}
-use Rattle.usn_record.specs.Layout.{nameOffset}
+use Rattle.usn_record.specs.Layout.{nameOffset, showsIds}
 use Rattle.usn_record.proofs.Versions.{told-refuse, told-use}
 use Rattle.file_usn.specs.FileUsn.{fileVersions, fileVersion, fileCheck, namedReply}
 use Rattle.file_usn.proofs.read_chosen.Statement.{statement}
@@ -23,7 +23,7 @@ abbrev start : tie.After-judge-file → tie.Start
 start j = j .before .before .before .before
 
 abbrev check : tie.After-judge-file → Option Status
-check j = let a = start j .args in fileCheck (a .v) (a .f) (a .table) (a .input .now) (length (a .output .now))
+check j = let a = start j .args in fileCheck (a .v) (a .f) (a .parent) (a .table) (a .input .now) (length (a .output .now))
 
 passes : (m : tie.After-choice2) → let j = m .before .before in (check j ≡ none) × (m .choice2 .given .0 .0 ≡ fileVersion (start j .args .input .now))
 passes m = let j = m .before .before in told-use (check j) (fileVersion (start j .args .input .now)) _ (sym (m .choice2 .given .1) ∙ j .judge-file .ensures)
@@ -33,7 +33,10 @@ sound : (m : tie.After-choice2) → let a = start (m .before .before) .args in l
 unfolding fileCheck
 sound m =
     let a = start (m .before .before) .args in
-    let last = else (fileVersions (a .input .now)) (unless (leb (nameOffset (fileVersion (a .input .now)) + 4) (length (a .output .now))) BufferTooSmall) in
+    let w = fileVersion (a .input .now) in
+    let last =
+    else (fileVersions (a .input .now))
+    (else (unless (leb (nameOffset w + 4) (length (a .output .now))) BufferTooSmall) (unless (showsIds w (a .f .id) (a .parent)) NotSupported)) in
     let corrupt = unless (ltb (a .f .usn) (2 ^ 63) && a .table) FileCorruptError in
     let k = else-right (unless (supported (a .v .usn)) InvalidDeviceRequest) (else corrupt last) (passes m .0) in
     unless-true (ltb (a .f .usn) (2 ^ 63) && a .table) FileCorruptError (else-left corrupt last k)

@@ -10,12 +10,14 @@ use Rattle.update_steps.proofs.post.Tie as tie
 returns : tie.Need-returns
 returns c =
     let o = c .before .before .before .before .before .before .before .before in
-    let a = o .before .before .before .before .before .args in
+    let q = o .before .before .before in
+    let p = q .before in
+    let a = p .before .before .before .args in
     posted (record { volume = a .v; ring = a .ring .now }) (posting (a .file) (a .reason) (a .name .now)) (o .post .result) (o .post .last .1 .0)
-    (o .post .ensures .0) (o .post .ensures .1)
+    (rw (p .id-of .ensures, q .id-of2 .ensures) at (o .post .ensures .0)) (rw (p .id-of .ensures, q .id-of2 .ensures) at (o .post .ensures .1))
 
 pub post-spec : {M : Type 1} → statement M
 post-spec =
     tie.close
-    (tie.spec (λ c κs. omega arith) (λ c. search needs) (λ c κs. omega arith) (λ c κs. omega arith) (λ c. search needs) (λ c κs. omega arith)
+    (tie.spec (λ c κs. omega arith) (λ c κs. omega arith) (λ c κs. omega arith) (λ c. search needs) (λ c κs. omega arith) (λ c κs. omega arith) (λ c. search needs) (λ c κs. omega arith)
     (λ c. search needs) returns)
