@@ -17,7 +17,7 @@ use Rattle.le.proofs.Numbers.{unle-lt, unle-le, le-unle, length-le}
 use Rattle.le.proofs.Places.{number-split, number-lt, le-number}
 use Rattle.le.proofs.Runs.{zeroes-are, are-zeroes}
 use Rattle.file_ids.specs.Ids.{Id, wide, idNumber, idBytes}
-use Rattle.file_ids.proofs.Wide.{le-wide, zero-bytes}
+use Rattle.file_ids.proofs.Longer.{le-longer, zero-bytes}
 
 true-false : {A : Type 0} → false ≡ true → A
 true-false e = let z : _≡_ {A = ℕ} 0 1 = cc in absurd (omega arith)
@@ -138,7 +138,7 @@ wide-halves low high a b =
 -- an id of eight bytes is not wide
 pub narrow-bytes : (n : ℕ) → n < 2 ^ 64 → wide (idBytes n) ≡ false
 narrow-bytes n h =
-    let e : drop 8 (le 16 n) ≡ replicate 8 0 = ap (drop 8) (le-wide 8 8 n h) ∙ drop-at (le 8 n) (replicate 8 0) 8 (length-le 8 n) in
+    let e : drop 8 (le 16 n) ≡ replicate 8 0 = ap (drop 8) (le-longer 8 8 n h) ∙ drop-at (le 8 n) (replicate 8 0) 8 (length-le 8 n) in
     ap (λ (l : List ℕ). not (allZero l)) e ∙ ap (λ (t : Bool). not t) (zeroes-are 8)
 
 -- ---- what the code makes
@@ -154,7 +154,7 @@ id-made s l b h e =
     let n : ℕ = length s in
     let k : n + (16 - n) ≡ 16 = omega arith in
     e ∙ ap (λ (t : List ℕ). s ++ t) (drop-zeroes n 16) ∙ ap (λ (t : List ℕ). t ++ replicate (16 - n) 0) (sym (le-unle s b))
-    ∙ sym (le-wide n (16 - n) (unle s) (unle-lt s b)) ∙ ap (λ (m : ℕ). le m (unle s)) k
+    ∙ sym (le-longer n (16 - n) (unle s) (unle-lt s b)) ∙ ap (λ (m : ℕ). le m (unle s)) k
 
 -- an id that is made of a part of a slice
 pub id-number : (s r : List ℕ) (at end w : ℕ) → end ≡ at + w → r ≡ idBytes (unle (take (end - at) (drop at s))) → r ≡ idBytes (numberAt s at w)
@@ -165,7 +165,7 @@ id-number s r at end w h e =
 
 -- a number of eight bytes, in front of eight zeroes
 pub id-of : (n : ℕ) (l : List ℕ) → n < 2 ^ 64 → l ≡ le 8 n ++ drop 8 (replicate 16 0) → l ≡ idBytes n
-id-of n l h e = e ∙ sym (le-wide 8 8 n h)
+id-of n l h e = e ∙ sym (le-longer 8 8 n h)
 
 -- two of them, one behind the other
 pub id-of-halves : (low high : ℕ) (l : List ℕ) → low < 2 ^ 64 → high < 2 ^ 64

@@ -15,7 +15,7 @@ use Rattle.le.specs.Numbers.{le, numberAt}
 use Rattle.le.proofs.Numbers.{unle-le, length-le}
 use Rattle.le.proofs.Runs.{and-left, and-right}
 use Rattle.status.specs.declared.Status.{Status}
-use Rattle.status.specs.declared.Status.the-variants.{Success, InvalidDeviceRequest, BufferTooSmall, FileCorruptError, JournalDeleteInProgress, JournalNotActive, JournalEntryDeleted}
+use Rattle.status.specs.declared.Status.the-variants.{Success, InvalidDeviceRequest, FileCorruptError, JournalDeleteInProgress, JournalNotActive, JournalEntryDeleted}
 use Rattle.status.specs.Number.{number}
 use Rattle.status.specs.Check.{unless, else}
 use Rattle.status.specs.Reply.{Reply, refuse, give, guard, answer}
@@ -25,7 +25,7 @@ use Rattle.volume.specs.declared.Volume.{Volume}
 use Rattle.volume.specs.State.{supported, isActive, isDeleting, activeCheck, goodCapacity}
 use Rattle.usn_record.specs.declared.Version.{Version}
 use Rattle.usn_record.specs.Layout.{Record, inVersion}
-use Rattle.records.specs.Records.{joined, records}
+use Rattle.records.specs.Records.{joined, records, allShown}
 use Rattle.reply_walker.specs.Reply.{positionOf}
 use Rattle.journal.specs.Kept.{keptBytes, inChain, goodMarks, sound, kept}
 use Rattle.journal.specs.Boundary.{recordsAfter}
@@ -38,7 +38,7 @@ use Rattle.history.specs.Calls.{Read, read, replyTo, statusOf, next, Typ
 use Rattle.history.specs.Log.{History, posted, note, notes}
 use Rattle.history.specs.Reading.{Received, Reader, advanced, told, Turn, mine, other, callOf, hears, follow, Carries, Own, Chosen, Hold}
 use Rattle.history.specs.Demand.{filter, between, CreatesNone, NoCreation, DroppedAbove, isNone, wellFormed}
-use Rattle.journal_page.proofs.Giving.{page-stops}
+use Rattle.journal_page.proofs.Giving.{page-stops, given-shown}
 use Rattle.journal_post.proofs.Links.{Chain, chain-le, chain-append}
 use Rattle.history.proofs.Effects.{clash, usable}
 use Rattle.history.proofs.Sim.{Sim, Grow}
@@ -57,7 +57,8 @@ hold-append (s ∷ ss) ts rs more k t = (
   k .1 ++ more,
   ap (λ (y : List Record). y ++ more) (k .2) ∙ append-assoc (k .0) (k .1) more,
   k .3,
-  hold-append ss ts (k .1) more (k .4) t,
+  k .4,
+  hold-append ss ts (k .1) more (k .5) t,
 )
 
 -- ---- a reader that stands rightly in the history
@@ -317,6 +318,9 @@ module _ (j : Journal) (h : History) (m : Sim j h) (d : Reader) (t : Stand h d) 
         ∙ drop-at (le 8 (c .position)) (pageBytes w c) 8 (length-le 8 (c .position))
         ∙ ap (λ (rs : List Record). joined (map (inVersion w) rs)) (sp .given)
 
+    shown : allShown w (sel (sp .taken)) ≡ true
+    shown = ap (allShown w) (sym (sp .given)) ∙ given-shown w (d .filter) room (d .position) (t .rest)
+
     upto : Chain (d .position) (sp .taken) q
     upto = subst (λ (n : ℕ). Chain (d .position) (sp .taken) n) at (sp .upto)
 
@@ -354,7 +358,7 @@ module _ (j : Journal) (h : History) (m : Sim j h) (d : Reader) (t : Stand h d) 
     step-handed =
         subst (Hold (advanced a bytes d .handed)) grown
         (hold-append (d .handed) (record { version = w; bytes = bytes } ∷ []) (sel (β (d .position) (posted h))) (sel (sp .taken)) (t .handed)
-        (sel (sp .taken), [], sym (append-nil (sel (sp .taken))), behind, refl))
+        (sel (sp .taken), [], sym (append-nil (sel (sp .taken))), shown, behind, refl))
 
     step-boundary : recordsAfter (h .base) q (posted h) ≡ some (sp .remain)
     step-boundary =

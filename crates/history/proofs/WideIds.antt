@@ -122,7 +122,7 @@ abbrev end : List ℕ
 end = 64 ∷ 1 ∷ 0 ∷ 0 ∷ 0 ∷ 0 ∷ 0 ∷ 0 ∷ []
 
 abbrev pub reads : List Read
-reads = asks 80 600 ∷ asks 160 600 ∷ asks 160 8 ∷ asksThree 160 600 ∷ asksThree 320 600 ∷ asksThree 320 600 ∷ []
+reads = asks 80 600 ∷ asks 160 600 ∷ asks 160 8 ∷ asksThree 160 600 ∷ asksThree 320 600 ∷ asks 320 600 ∷ []
 
 abbrev pub replies : List Reply
 replies = give Success two ∷ refuse NotSupported ∷ refuse NotSupported ∷ give Success three ∷ give Success end ∷ give Success end ∷ []
@@ -137,7 +137,7 @@ wide-right =
     ap₂ _∷_ (answered (asks 80 600) refl)
     (ap₂ _∷_ (answered (asks 160 600) refl)
     (ap₂ _∷_ (answered (asks 160 8) refl)
-    (ap₂ _∷_ (answered (asksThree 160 600) refl) (ap₂ _∷_ (answered (asksThree 320 600) refl) (ap₂ _∷_ (answered (asksThree 320 600) refl) refl)))))
+    (ap₂ _∷_ (answered (asksThree 160 600) refl) (ap₂ _∷_ (answered (asksThree 320 600) refl) (ap₂ _∷_ (answered (asks 320 600) refl) refl)))))
 
 -- ---- a reader whose reads get these replies, one after another
 
@@ -172,7 +172,8 @@ module _ (j : Journal) where
   amounts h d [] = refl
   amounts h d (a ∷ more) = ap (λ (n : ℕ). one (counts h d (mine a)) + n) (amounts h (reading.told a (replyTo j a) d) more)
 
--- ---- the promise to it: three records are selected above its start, and of its reads three count, those of version 3
+-- ---- the promise to it: three records are selected above its start, and of its reads three count, those of version 3 and the last, of version
+-- 2, above whose position no wide id remains
 
 reader : ReaderPromise (runs (next disk (create 7)) (calls ++ [])) (notes (historyAfter 0) (calls ++ [])) (fresh 80 all)
 unfolding opened isPosted shed added notePost postedName goodName goodUnits goodUnit

@@ -1,6 +1,6 @@
 -- A reader: any choice of a list's reads that carry its position, mask and only-on-close flag.
 use mathlib.Core.Path.{_≡_}
-use mathlib.Core.Bool.{cond}
+use mathlib.Core.Bool.{true, cond}
 use mathlib.Core.List.{List, [], _∷_, _++_, map}
 use Prim.Native.Nat.{ℕ}
 use lib.Dec.{eqb}
@@ -9,7 +9,7 @@ use Rattle.status.specs.Number.{number}
 use Rattle.status.specs.Reply.{Reply, refuse, give}
 use Rattle.usn_record.specs.declared.Version.{Version}
 use Rattle.usn_record.specs.Layout.{Record, inVersion}
-use Rattle.records.specs.Records.{joined}
+use Rattle.records.specs.Records.{joined, allShown}
 use Rattle.reply_walker.specs.Reply.{positionOf}
 use Rattle.journal_page.specs.declared.Filter.{Filter}
 use Rattle.journal_read.specs.Input.{startOf, filterOf, versionOf}
@@ -80,7 +80,14 @@ abbrev pub Chosen : Journal → Reader → List Turn → Type 0
 Chosen j d [] = Unit {0}
 Chosen j d (t ∷ ts) = Own d t × Chosen (next j (callOf t)) (hears j d t) ts
 
--- the replies hold, behind their positions, exactly these records, in this order, each byte for byte its layout in the reply's version
+-- the replies hold, behind their positions, exactly these records, in this order, each byte for byte its layout in the reply's version, which
+-- shows its ids
 abbrev pub Hold : List Received → List Record → Type 0
 Hold [] rs = rs ≡ []
-Hold (s ∷ ss) rs = (here : List Record) × (later : List Record) × (rs ≡ here ++ later) × (drop 8 (s .bytes) ≡ joined (map (inVersion (s .version)) here)) × Hold ss later
+Hold (s ∷ ss) rs =
+    (here : List Record)
+    × (later : List Record)
+    × (rs ≡ here ++ later)
+    × (allShown (s .version) here ≡ true)
+    × (drop 8 (s .bytes) ≡ joined (map (inVersion (s .version)) here))
+    × Hold ss later
