@@ -8,34 +8,14 @@
 
 mod common;
 
+use common::journal::{gave, given, refused, success, Given, Journal, CAPACITY};
 use common::{check, image, is_wide, lay_out, record_length, selects};
 use common::{model_change, model_file, model_links, model_volume};
 use common::{Counts, Hex, Lent, ReadInput, Rng, CHANGE, GUARD, NEGATIVE, TRAILER};
 use lanhduxe::Status::{self, *};
 use lanhduxe::{list_reply, read_record, walk_reply};
-use lanhduxe::{Answer, Change, FileId, FileRecord, Link, Record, Volume};
+use lanhduxe::{Change, FileId, FileRecord, Link, Record, Volume};
 use std::collections::{HashSet, VecDeque};
-
-fn success(count: usize) -> Answer {
-    let status = Success;
-    Answer { status, count }
-}
-
-fn refused(status: Status) -> (Answer, Vec<u8>) {
-    (Answer { status, count: 0 }, Vec::new())
-}
-
-/// What a call wrote. The bytes behind it are as they were.
-fn given(mut output: Vec<u8>, answer: Answer) -> (Answer, Vec<u8>) {
-    assert!(output[answer.count..].iter().all(|byte| *byte == 0xCC));
-    output.truncate(answer.count);
-    (answer, output)
-}
-
-/// An answer with these bytes.
-fn gave(bytes: Vec<u8>) -> (Answer, Vec<u8>) {
-    (success(bytes.len()), bytes)
-}
 
 /// An id in which one of the sixteen bytes has a value, and the lower ones are 1.
 fn with_byte(byte: usize, value: u8) -> FileId {
@@ -76,77 +56,21 @@ fn narrow(reason: u32) -> Change {
 
 // ---- A journal of records whose name has one unit.
 
-const CAPACITY: usize = 1024;
-
-/// A volume record and its ring with guard bytes behind it.
-#[derive(Clone, Debug, PartialEq, Eq)]
-struct Journal {
-    volume: Volume,
-    ring: Vec<u8>,
-}
-
 impl Journal {
-    /// A journal that is empty at a position.
-    fn new(last: u64) -> Journal {
-        let mut volume = Volume {
-            usn: 1,
-            journal: 1,
-            last,
-            capacity: CAPACITY as u64,
-            ..Volume::default()
-        };
-        assert_eq!(volume.create(7), Success);
-        let ring = vec![0xEE; CAPACITY + GUARD];
-        Journal { volume, ring }
-    }
-
     /// A journal with records of these changes, from a position on.
     fn of(first: u64, changes: &[Change]) -> Journal {
         let mut journal = Journal::new(first);
         for change in changes {
-            journal.post(change);
+            journal.add(change);
         }
         journal
     }
 
     /// Posts a change, which has to be accepted with any ids.
-    fn post(&mut self, change: &Change) {
-        let mut usn = 3;
+    fn add(&mut self, change: &Change) {
         let end = self.volume.last + 80;
-        let ring = &mut self.ring[..CAPACITY];
-        let status = self.volume.post(ring, change, b"a\0", &mut usn);
-        assert_eq!((status, usn), (Success, end), "{change:?}");
-        assert_eq!(self.ring[CAPACITY..], [0xEE; GUARD]);
-    }
-
-    /// Reads what a mask selects from a position on.
-    fn read(&self, start: u64, mask: u32, version: u16, room: usize) -> (Answer, Vec<u8>) {
-        let input = ReadInput {
-            start,
-            mask,
-            only_on_close: 0,
-            id: self.volume.id,
-            lowest: 2,
-            highest: version,
-            size: 48,
-        };
-        self.ask(&input, room)
-    }
-
-    fn ask(&self, input: &ReadInput, room: usize) -> (Answer, Vec<u8>) {
-        let input = input.bytes(&mut Rng::fixed());
-        let mut output = vec![0xCC; room + GUARD];
-        let ring = &self.ring[..CAPACITY];
-        let lent = &mut output[..room];
-        let answer = self.volume.read_journal(ring, &input, lent);
-        given(output, answer)
-    }
-
-    fn save(&self, room: usize) -> (Answer, Vec<u8>) {
-        let mut output = vec![0xCC; room + GUARD];
-        let ring = &self.ring[..CAPACITY];
-        let answer = self.volume.save_journal(ring, &mut output[..room]);
-        given(output, answer)
+        assert_eq!(self.post(change, b"a\0"), (Success, end), "{change:?}");
+        assert_eq!(self.ring[CAPACITY..], [0; GUARD]);
     }
 }
 
@@ -161,7 +85,7 @@ fn laid_out(version: u16, first: u64, changes: &[Change]) -> Vec<u8> {
 }
 
 /// The reply with a position and such records.
-fn reply(position: u64, version: u16, first: u64, changes: &[Change]) -> (Answer, Vec<u8>) {
+fn reply(position: u64, version: u16, first: u64, changes: &[Change]) -> Given {
     let records = laid_out(version, first, changes);
     gave([&position.to_le_bytes()[..], &records].concat())
 }
@@ -215,7 +139,7 @@ const WIDE: Change = Change {
 fn version_3_shows_all_bytes() {
     let journal = Journal::of(4096, &[WIDE]);
     assert_eq!(journal.ring[..80], RECORD);
-    assert_eq!(journal.ring[80..], [0xEE; CAPACITY + GUARD - 80]);
+    assert_eq!(journal.ring[80..CAPACITY], [0xEE; CAPACITY - 80]);
     let shown = [&4176u64.to_le_bytes()[..], &RECORD].concat();
     assert_eq!(journal.read(0, !0, 3, 88), gave(shown.clone()));
     assert_eq!(journal.read(0, !0, 2, 600), refused(NotSupported));
@@ -558,7 +482,7 @@ fn upper_bytes_leave_a_ring_sound() {
                 _ => reply(begin, 2, 4296, &changes[..number]),
             };
             assert_eq!(journal.read(0, 1, 2, 2000), due, "{number} {place}");
-            journal.post(&WIDE);
+            journal.add(&WIDE);
             assert_eq!(journal.volume.first, 4296 + 80);
         }
     }
@@ -567,13 +491,7 @@ fn upper_bytes_leave_a_ring_sound() {
 // ---- File reads.
 
 /// A file read in a version into an output of this length.
-fn read_file(
-    id: FileId,
-    parent: FileId,
-    name: usize,
-    version: Option<u8>,
-    room: usize,
-) -> (Answer, Vec<u8>) {
+fn read_file(id: FileId, parent: FileId, name: usize, version: Option<u8>, room: usize) -> Given {
     let file = FileRecord {
         id,
         usn: 8,
@@ -711,18 +629,18 @@ fn no_image_is_written_while_a_wide_id_is_kept() {
         assert_eq!(journal.save(95), refused(BufferTooSmall));
         let first = image(&laid_out(2, 4096, &[narrow(1)]), 4096, 7);
         assert_eq!(journal.save(96), gave(first));
-        journal.post(&change(pair, 1));
+        journal.add(&change(pair, 1));
         for room in (0..=32).chain(158..=162).chain([2000]) {
             assert_eq!(journal.save(room), refused(NotSupported), "{pair:?} {room}");
         }
         // The ring keeps twelve records: eleven behind this one, then it goes.
         for _ in 0..11 {
             assert_eq!(journal.save(2000), refused(NotSupported), "{pair:?}");
-            journal.post(&narrow(1));
+            journal.add(&narrow(1));
         }
         assert_eq!(journal.volume.first, 4096 + 80);
         assert_eq!(journal.save(2000), refused(NotSupported), "{pair:?}");
-        journal.post(&narrow(1));
+        journal.add(&narrow(1));
         assert_eq!(journal.volume.first, 4096 + 160);
         let rest = laid_out(2, 4096 + 160, &[narrow(1); 12]);
         let saved = image(&rest, 4096 + 160, 7);
@@ -782,18 +700,8 @@ fn an_image_is_loaded_with_narrow_ids() {
     assert_eq!(answer, success(2 * 64 + TRAILER));
     assert_eq!(saved[8..24], [0xFF; 16]);
 
-    let mut loaded = Journal {
-        volume: Volume {
-            state: 0,
-            id: 0,
-            last: 0,
-            first: 0,
-            ..journal.volume
-        },
-        ring: vec![0xEE; CAPACITY + GUARD],
-    };
-    let ring = &mut loaded.ring[..CAPACITY];
-    assert_eq!(loaded.volume.load_journal(ring, &saved, 8), Success);
+    let mut loaded = Journal::idle(0);
+    assert_eq!(loaded.load(&saved, 8), Success);
     assert_eq!(loaded.ring, journal.ring);
     assert_eq!(
         loaded.ring[8..40],

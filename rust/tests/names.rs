@@ -6,11 +6,12 @@
 
 mod common;
 
+use common::journal::{gave, given, idle, refused, Given, Journal, CAPACITY};
 use common::{image, lay_out, plant, record_length, seal};
-use common::{ReadInput, Rng, ALIKE, CHANGE, EXCLUDED, GUARD, TRAILER};
+use common::{Rng, ALIKE, CHANGE, EXCLUDED, GUARD, TRAILER};
 use lanhduxe::Status::{self, *};
 use lanhduxe::{list_reply, read_record, walk_reply};
-use lanhduxe::{Answer, Change, FileId, FileRecord, Link, Volume};
+use lanhduxe::{Change, FileId, FileRecord, Link, Volume};
 
 /// Lengths of names: around every width in which units might be judged together.
 /// A name of 92 bytes has 0x5C in the field before it, where its length stands.
@@ -143,58 +144,12 @@ impl Amid {
     }
 }
 
-fn success(count: usize) -> Answer {
-    let status = Success;
-    Answer { status, count }
-}
-
-fn refused(status: Status) -> Answer {
-    Answer { status, count: 0 }
-}
-
-/// A volume that supports files' USN data and a journal, which is idle.
-fn idle(capacity: u64) -> Volume {
-    Volume {
-        usn: 1,
-        journal: 1,
-        capacity,
-        ..Volume::default()
-    }
-}
-
 // ---- A journal, and every call that asks whether its ring is sound.
 
-/// The ring of every journal here: with room for the longest record and others.
-const CAPACITY: usize = 1024;
-
-/// A volume record and its ring with guard bytes, which are zero, behind it.
-#[derive(Clone, Debug, PartialEq, Eq)]
-struct Journal {
-    volume: Volume,
-    ring: Vec<u8>,
-}
+/// Room for whatever a journal here has.
+const ROOM: usize = 2000;
 
 impl Journal {
-    /// A journal that is empty at a position.
-    fn new(last: u64) -> Journal {
-        let mut volume = Volume {
-            last,
-            ..idle(CAPACITY as u64)
-        };
-        assert_eq!(volume.create(7), Success);
-        let mut ring = vec![0xEE; CAPACITY];
-        ring.resize(CAPACITY + GUARD, 0);
-        Journal { volume, ring }
-    }
-
-    /// Posts, and gives the status and the file's Usn, which was 3.
-    fn post(&mut self, change: &Change, name: &[u8]) -> (Status, u64) {
-        let mut usn = 3;
-        let ring = &mut self.ring[..CAPACITY];
-        let status = self.volume.post(ring, change, name, &mut usn);
-        (status, usn)
-    }
-
     /// Posts a name that has to be accepted.
     fn add(&mut self, name: &[u8]) {
         let end = self.volume.last + record_length(3, name.len()) as u64;
@@ -209,43 +164,16 @@ impl Journal {
         }
     }
 
-    /// Reads all that is selected from a position on, into 2,000 bytes.
-    fn read(&self, start: u64, mask: u32, version: u16) -> (Answer, Vec<u8>) {
-        let input = ReadInput {
-            start,
-            mask,
-            only_on_close: 0,
-            id: self.volume.id,
-            lowest: version,
-            highest: version,
-            size: 48,
-        };
-        let input = input.bytes(&mut Rng::fixed());
-        let mut output = vec![0xCC; 2000 + GUARD];
-        let ring = &self.ring[..CAPACITY];
-        let lent = &mut output[..2000];
-        let answer = self.volume.read_journal(ring, &input, lent);
-        (answer, given(output, answer))
-    }
-
-    /// Saves into 2,000 bytes.
-    fn save(&self) -> (Answer, Vec<u8>) {
-        let mut output = vec![0xCC; 2000 + GUARD];
-        let ring = &self.ring[..CAPACITY];
-        let answer = self.volume.save_journal(ring, &mut output[..2000]);
-        (answer, given(output, answer))
-    }
-
     /// Posts, reads and saves a journal whose ring is not sound. Each is refused
     /// and changes nothing.
     fn is_refused(&mut self, what: &impl Fn() -> String) {
         let before = self.clone();
-        let corrupt = (refused(FileCorruptError), Vec::new());
+        let corrupt = refused(FileCorruptError);
         let posted = self.post(&CHANGE, b"a\0");
         assert_eq!(posted, (FileCorruptError, 3), "{}", what());
         assert!(*self == before, "a refused post changed: {}", what());
-        assert_eq!(self.read(0, !0, 3), corrupt, "{}", what());
-        assert_eq!(self.save(), corrupt, "{}", what());
+        assert_eq!(self.read(0, !0, 3, ROOM), corrupt, "{}", what());
+        assert_eq!(self.save(ROOM), corrupt, "{}", what());
     }
 
     /// Reads and saves a journal that keeps records with these names, then posts
@@ -255,21 +183,13 @@ impl Journal {
         for version in [2, 3] {
             let records = laid_out(version, first, names);
             let reply = [&last.to_le_bytes()[..], &records].concat();
-            let due = (success(reply.len()), reply);
-            assert_eq!(self.read(0, !0, version), due, "{}", what());
+            assert_eq!(self.read(0, !0, version, ROOM), gave(reply), "{}", what());
         }
         let saved = image(&laid_out(2, first, names), first, self.volume.id);
-        assert_eq!(self.save(), (success(saved.len()), saved), "{}", what());
+        assert_eq!(self.save(ROOM), gave(saved), "{}", what());
         let posted = self.clone().post(&CHANGE, b"a\0");
         assert_eq!(posted, (Success, last + 80), "{}", what());
     }
-}
-
-/// What a call wrote. The bytes behind it are as they were.
-fn given(mut output: Vec<u8>, answer: Answer) -> Vec<u8> {
-    assert!(output[answer.count..].iter().all(|byte| *byte == 0xCC));
-    output.truncate(answer.count);
-    output
 }
 
 /// Records with these names, back to back, from a position on.
@@ -399,7 +319,7 @@ fn names_are_judged_in_a_reply() {
             let room = 64 + 2 * reply.len();
             let mut output = vec![0xCC; room + GUARD];
             let answer = list_reply(&reply, &mut output[..room]);
-            let text = given(output, answer);
+            let text = given(output, answer).1;
             assert_eq!(answer.status, Success);
             match good {
                 true => assert!(text.ends_with(b"records 3\n"), "{name:x?}"),
@@ -429,27 +349,27 @@ fn with_short(link: Link) -> Link {
 const PARENT: FileId = FileId::new(5);
 
 /// Reads a file's record in version 2, without an input.
-fn read_file(pool: &[u8], links: &[Link]) -> (Answer, Vec<u8>) {
+fn read_file(pool: &[u8], links: &[Link]) -> Given {
     let mut output = vec![0xCC; 600 + GUARD];
     let file = FileRecord::default();
     let answer = idle(0).read_file(&file, PARENT, pool, links, &[], &mut output[..600]);
-    (answer, given(output, answer))
+    given(output, answer)
 }
 
 /// The record of a file with this name.
-fn file_record(name: &[u8]) -> (Answer, Vec<u8>) {
+fn file_record(name: &[u8]) -> Given {
     let change = Change {
         parent: PARENT,
         ..Change::default()
     };
     let record = lay_out(2, &change, 0, name);
-    (success(record.len()), record)
+    gave(record)
 }
 
 /// A table is judged whole: a link's name is refused though another is chosen.
 #[test]
 fn names_are_judged_in_a_link_table() {
-    let corrupt = (refused(FileCorruptError), Vec::new());
+    let corrupt = refused(FileCorruptError);
     let tried = each_name(|name, good| {
         // The name is amid zeroes, and a good one is behind it.
         let lent = Amid::new(name);
@@ -497,7 +417,7 @@ fn only_the_units_of_names_are_judged_in_a_pool() {
     // A name may begin at an odd place, where the same bytes are other units.
     assert_eq!(read_file(&pool, &[link(1, 6)]), file_record(b"\0a\0/\0\\"));
     for bad in [link(0, 2), link(4, 2), link(6, 2), link(2, 4), link(0, 8)] {
-        let corrupt = (refused(FileCorruptError), Vec::new());
+        let corrupt = refused(FileCorruptError);
         assert_eq!(read_file(&pool, &[bad]), corrupt, "{bad:?}");
     }
 }
@@ -508,7 +428,8 @@ fn a_file_read_gives_its_first_status() {
     let links = [link(0, 2)];
     let read = |volume: Volume, input: &[u8]| {
         let file = FileRecord::default();
-        volume.read_file(&file, PARENT, b"/\0", &links, input, &mut [])
+        let answer = volume.read_file(&file, PARENT, b"/\0", &links, input, &mut []);
+        given(Vec::new(), answer)
     };
     let unsupported = Volume { usn: 0, ..idle(0) };
     assert_eq!(
@@ -521,22 +442,10 @@ fn a_file_read_gives_its_first_status() {
 
 // ---- Images.
 
-/// Loads into an idle journal. A refusal changes nothing.
+/// Loads into an idle journal.
 fn load(image: &[u8], id: u64) -> (Status, Journal) {
-    let before = Journal {
-        volume: Volume {
-            last: 16,
-            ..idle(CAPACITY as u64)
-        },
-        ring: [vec![0xEE; CAPACITY], vec![0; GUARD]].concat(),
-    };
-    let mut after = before.clone();
-    let ring = &mut after.ring[..CAPACITY];
-    let status = after.volume.load_journal(ring, image, id);
-    if status != Success {
-        assert!(after == before, "a refused load changed");
-    }
-    (status, after)
+    let mut journal = Journal::idle(16);
+    (journal.load(image, id), journal)
 }
 
 #[test]
@@ -567,7 +476,7 @@ fn names_are_judged_in_a_saved_image() {
         let mut journal = Journal::new(4096 + 800);
         journal.add(b"a\0");
         journal.add(&letters(length));
-        let (answer, saved) = journal.save();
+        let (answer, saved) = journal.save(ROOM);
         assert_eq!(answer.status, Success);
         assert_eq!(load(&saved, 8).0, Success);
         for place in places(length) {
@@ -793,13 +702,18 @@ fn a_journal_created_anew_takes_posts_again() {
         journal.put(first + 80 + 76 + 16, &unit.to_le_bytes());
         let before = journal.clone();
 
-        let corrupt = (refused(FileCorruptError), Vec::new());
+        let corrupt = refused(FileCorruptError);
         for _ in 0..2 {
             journal.is_refused(&what);
             // A start before or behind the record, and a mask that selects none.
             for (start, mask) in [(first, !0), (first + 80, !0), (last, !0), (0, 1 << 30)] {
                 for version in [2, 3] {
-                    assert_eq!(journal.read(start, mask, version), corrupt, "{}", what());
+                    assert_eq!(
+                        journal.read(start, mask, version, ROOM),
+                        corrupt,
+                        "{}",
+                        what()
+                    );
                 }
             }
             for reason in [1, 0x8000_0000, !0] {
@@ -820,10 +734,10 @@ fn a_journal_created_anew_takes_posts_again() {
 
         assert_eq!(journal.volume.delete(7), Success);
         assert_eq!(journal.post(&CHANGE, b"a\0"), (Success, 3));
-        assert_eq!(journal.save().0, refused(JournalDeleteInProgress));
+        assert_eq!(journal.save(ROOM), refused(JournalDeleteInProgress));
         assert_eq!(journal.volume.finish(), Success);
         assert_eq!(journal.post(&CHANGE, b"a\0"), (Success, 3));
-        assert_eq!(journal.save().0, refused(JournalNotActive));
+        assert_eq!(journal.save(ROOM), refused(JournalNotActive));
         assert!(journal.ring == before.ring, "{}", what());
         assert_eq!(journal.volume.create(8), Success);
         journal.is_accepted(&[], &what);
@@ -847,7 +761,7 @@ fn judge_everywhere(name: &[u8], good: bool) {
     let record = laid_out(3, 4096, &[name]);
     keeper.put(4096, &record);
     keeper.volume.last += record.len() as u64;
-    let read = keeper.read(0, 0, 3).0.status;
+    let read = keeper.read(0, 0, 3, ROOM).0.status;
     assert_eq!(read, due(FileCorruptError), "kept {name:x?}");
 
     for version in [2, 3] {

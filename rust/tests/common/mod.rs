@@ -1,7 +1,9 @@
 //! What the tests share: random numbers, the seed, counts of statuses, lent
-//! buffers with guard bytes, names, ids, and the layout of a record.
+//! buffers with guard bytes, names, ids, the layout of a record, and a journal.
 
 #![allow(dead_code)]
+
+pub mod journal;
 
 use lanhduxe::{Change, FileId, FileRecord, Link, Record, Status, Volume};
 use std::fmt;
