@@ -8,7 +8,7 @@
 
 mod common;
 
-use common::journal::{gave, given, refused, success, Given, Journal, CAPACITY};
+use common::journal::{behind, gave, given, refused, success, Given, Journal, CAPACITY};
 use common::{check, image, is_wide, lay_out, record_length, selects};
 use common::{model_change, model_file, model_links, model_volume};
 use common::{Counts, Hex, Lent, ReadInput, Rng, CHANGE, GUARD, NEGATIVE, TRAILER};
@@ -70,7 +70,7 @@ impl Journal {
     fn add(&mut self, change: &Change) {
         let end = self.volume.last + 80;
         assert_eq!(self.post(change, b"a\0"), (Success, end), "{change:?}");
-        assert_eq!(self.ring[CAPACITY..], [0; GUARD]);
+        assert_eq!(self.ring[CAPACITY..], behind());
     }
 }
 

@@ -31,6 +31,12 @@ pub fn refused(status: Status) -> Given {
     (Answer { status, count: 0 }, Vec::new())
 }
 
+/// Guard bytes of units that no name may hold, so that a call sees a difference if
+/// it judges them, and half of them are not what padding is.
+pub fn behind() -> Vec<u8> {
+    [0x5C, 0].into_iter().cycle().take(GUARD).collect()
+}
+
 /// A volume that supports files' USN data and a journal, which is idle.
 pub fn idle(capacity: usize) -> Volume {
     Volume {
@@ -41,7 +47,7 @@ pub fn idle(capacity: usize) -> Volume {
     }
 }
 
-/// A volume record and its ring with guard bytes, which are zero, behind it.
+/// A volume record and its ring with guard bytes behind it.
 #[derive(Clone, Debug, PartialEq, Eq)]
 pub struct Journal {
     pub volume: Volume,
@@ -56,7 +62,7 @@ impl Journal {
             ..idle(CAPACITY)
         };
         let mut ring = vec![0xEE; CAPACITY];
-        ring.resize(CAPACITY + GUARD, 0);
+        ring.extend(behind());
         Journal { volume, ring }
     }
 
