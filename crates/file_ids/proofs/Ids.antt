@@ -3,8 +3,7 @@
 use mathlib.Core.Path.{_≡_, refl, sym, ap, _∙_}
 use mathlib.Core.Bool.{Bool, true, false, not}
 use mathlib.Core.List.{List, [], _∷_, _++_, append-nil}
-use Prim.Native.Nat.{ℕ, zero, suc, _+_, _-_, _*_, _/_, _%_, _^_, _≤_, _<_}
-use native.Mathlib.Nat.{not-suc-le-zero, le-of-suc-le-suc}
+use Prim.Native.Nat.{ℕ, zero, suc, _+_, _-_, _*_, _^_, _≤_, _<_}
 use native.Mathlib.Omega.{arith}
 use native.Mathlib.Numerals.{unary-clauses}
 use lib.Dec.{eqb, lit<}
@@ -13,7 +12,7 @@ use lib.Seq.{take-all, take-at, drop-at}
 use borrow.Author.Tests.{eq-eqb, ne-eqb}
 use Rattle.le.specs.Numbers.{le, unle, numberAt, encode}
 use Rattle.le.specs.Bytes.{Bytes, allZero}
-use Rattle.le.proofs.Numbers.{unle-lt, unle-le, le-unle, length-le}
+use Rattle.le.proofs.Numbers.{bytes-append, bytes-le, unle-lt, unle-le, le-low, le-unle, length-le}
 use Rattle.le.proofs.Places.{number-split, number-lt, le-number}
 use Rattle.le.proofs.Runs.{zeroes-are, are-zeroes}
 use Rattle.file_ids.specs.Ids.{Id, wide, idNumber, idBytes}
@@ -34,12 +33,6 @@ id-back id d = rw (d .size) at (le-unle id (d .bytes))
 pub number-back : (n : ℕ) → n < 256 ^ 16 → idNumber (idBytes n) ≡ n
 number-back n h = unle-le 16 n h
 
-bytes-le : (k n : ℕ) → Bytes (le k n)
-unfolding le
-bytes-le zero n i = lit< tt
-bytes-le (suc k) n zero = omega arith
-bytes-le (suc k) n (suc i) = bytes-le k (n / 256) i
-
 -- what is made of a number is an id
 pub id-bytes : (n : ℕ) → Id (idBytes n)
 id-bytes n = record { size = length-le 16 n; bytes = bytes-le 16 n }
@@ -53,19 +46,18 @@ id-halves id d =
     let all : numberAt id 0 16 ≡ unle id = ap unle (take-all 16 id (omega (arith, d .size))) in
     sym all ∙ number-split id 0 8 8 (omega (arith, d .size))
 
--- and its bytes are theirs: what a writer of words needs
+-- its upper half has its last eight bytes
+upper : (id : List ℕ) → Id id → le 8 (numberAt id 8 8) ≡ drop 8 id
+upper id d =
+    let n : length id ≡ 16 = d .size in
+    le-number id 8 8 (d .bytes) (omega arith) ∙ take-all 8 (drop 8 id) (omega (arith, length-drop 8 id))
+
+-- and its bytes are those of both: what a writer of words needs
 pub id-words : (id : List ℕ) → Id id → le 16 (idNumber id) ≡ le 8 (numberAt id 0 8) ++ le 8 (numberAt id 8 8)
 id-words id d =
     let n : length id ≡ 16 = d .size in
     let a : le 8 (numberAt id 0 8) ≡ take 8 id = le-number id 0 8 (d .bytes) (omega arith) in
-    let b : le 8 (numberAt id 8 8) ≡ take 8 (drop 8 id) = le-number id 8 8 (d .bytes) (omega arith) in
-    let c : take 8 (drop 8 id) ≡ drop 8 id = take-all 8 (drop 8 id) (omega (arith, length-drop 8 id)) in
-    id-back id d ∙ rw (a, b, c) (sym (take-append-drop 8 id))
-
-bytes-append : (a b : List ℕ) → Bytes a → Bytes b → Bytes (a ++ b)
-bytes-append [] b p q i = q i
-bytes-append (x ∷ a) b p q zero = p zero
-bytes-append (x ∷ a) b p q (suc i) = bytes-append a b (λ j. p (suc j)) q i
+    id-back id d ∙ rw (a, upper id d) (sym (take-append-drop 8 id))
 
 -- the other way round: the id of two halves
 module _ (low high : ℕ) where
@@ -97,21 +89,16 @@ module _ (low high : ℕ) where
 -- ---- wide ids
 
 module _ (id : List ℕ) (d : Id id) where
-  upper : le 8 (numberAt id 8 8) ≡ drop 8 id
-  upper =
-      let n : length id ≡ 16 = d .size in
-      le-number id 8 8 (d .bytes) (omega arith) ∙ take-all 8 (drop 8 id) (omega (arith, length-drop 8 id))
-
   -- the upper eight bytes are all zero if they are so as one number
   zero-upper : numberAt id 8 8 ≡ 0 → allZero (drop 8 id) ≡ true
-  zero-upper e = ap allZero (sym upper ∙ zero-bytes 8 (numberAt id 8 8) e) ∙ zeroes-are 8
+  zero-upper e = ap allZero (sym (upper id d) ∙ zero-bytes 8 (numberAt id 8 8) e) ∙ zeroes-are 8
 
   -- and only then
   upper-zero : allZero (drop 8 id) ≡ true → numberAt id 8 8 ≡ 0
   upper-zero e =
       let n : length (drop 8 id) ≡ 8 = length-drop 8 id ∙ omega (arith, d .size) in
       let z : le 8 (numberAt id 8 8) ≡ le 8 0 =
-      upper ∙ are-zeroes (drop 8 id) e ∙ ap (λ (k : ℕ). replicate k 0) n ∙ sym (zero-bytes 8 0 refl) in
+      upper id d ∙ are-zeroes (drop 8 id) e ∙ ap (λ (k : ℕ). replicate k 0) n ∙ sym (zero-bytes 8 0 refl) in
       sym (unle-le 8 (numberAt id 8 8) (number-lt id 8 8 (d .bytes))) ∙ ap unle z ∙ unle-le 8 0 (lit< tt)
 
   -- what the test of the upper half answers
@@ -175,17 +162,6 @@ id-of-halves low high l a b e = e ∙ append-nil _ ∙ ap (λ (t : List ℕ). le
 
 -- ---- what a writer of an id leaves
 
--- the lowest bytes of a number are the first bytes of its list
-le-low : (w : ℕ) (s : List ℕ) → Bytes s → w ≤ length s → le w (unle s) ≡ take w s
-unfolding le unle
-le-low zero s b h = refl
-le-low (suc w) [] b h = absurd (not-suc-le-zero h)
-le-low (suc w) (x ∷ s) b h =
-    let k : x < 256 = b zero in
-    let e : (x + 256 * unle s) % 256 ≡ x = omega arith in
-    let q : (x + 256 * unle s) / 256 ≡ unle s = omega arith in
-    rw (e, q, le-low w s (λ i. b (suc i)) (le-of-suc-le-suc h))
-
 -- its first bytes, copied
 pub id-put : (w : ℕ) (id o l : List ℕ) → Id id → w ≤ 16 → l ≡ take w id ++ drop (length (take w id)) o → l ≡ le w (idNumber id) ++ drop w o
 id-put w id o l d h e =
@@ -196,5 +172,5 @@ id-put w id o l d h e =
 -- all of them
 pub id-put-all : (id o l : List ℕ) → Id id → l ≡ id ++ drop (length id) o → l ≡ le 16 (idNumber id) ++ drop 16 o
 id-put-all id o l d e =
-    let n : length id ≡ 16 = d .size in
-    e ∙ ap (λ (m : ℕ). id ++ drop m o) n ∙ ap (λ (t : List ℕ). t ++ drop 16 o) (sym (id-back id d))
+    let t : take 16 id ≡ id = take-all 16 id (omega (arith, d .size)) in
+    id-put 16 id o l d (omega arith) (rw t e)
