@@ -114,7 +114,7 @@ typedef struct usn_volume {
     uint64_t capacity; /* the ring's length */
 } usn_volume;
 
-/* A file's id, of 128 bits; usn_id_of makes one of a number. */
+/* A file's id, of 128 bits; usn_id_of makes one of a number, and usn_id_is_wide asks whether version 2 cannot show it. */
 typedef struct usn_id {
     uint8_t bytes[16]; /* lowest byte first */
 } usn_id;
@@ -205,6 +205,12 @@ static inline usn_id usn_id_of(uint64_t number)
     usn_id id = { { 0 } };
     usn_put_number(id.bytes, number, 8);
     return id;
+}
+
+/* Whether an id is wide: 1 or 0. */
+static inline int usn_id_is_wide(usn_id id)
+{
+    return usn_get_number(id.bytes + 8, 8) != 0;
 }
 
 /* ---- The journal ---- */

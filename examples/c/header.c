@@ -47,6 +47,11 @@ static void try_ids(void)
     uint8_t input[USN_READ_INPUT_SIZE];
     uint64_t usn = 0;
     TRY(memcmp(narrow.bytes, expected, sizeof expected) == 0);
+    for (size_t i = 0; i < sizeof wide.bytes; i++) {
+        usn_id id = usn_id_of(0);
+        id.bytes[i] = 0x80;
+        TRY(usn_id_is_wide(id) == (i >= 8));
+    }
 
     TRY(usn_create(&volume, 7) == USN_SUCCESS);
     for (uint32_t i = 0; i < 3; i++) {
