@@ -220,35 +220,70 @@ fn reads(p: &Pair, mask: u32, version: u16) -> Timed {
     )
 }
 
-fn saves(p: &Pair) -> Timed {
+fn saves(p: &Pair, form: u32) -> Timed {
     let room = p.rings[0].len() + 32;
     let (mut a, mut b) = (vec![0; room], vec![0; room]);
-    let x = p.library.save_journal(&p.rings[0], &mut a);
-    let y = model::save_journal(&p.model, &p.rings[1], &mut b);
+    let x = p.library.save_journal(&p.rings[0], form, &mut a);
+    let y = model::save_journal(&p.model, &p.rings[1], form, &mut b);
     assert!((x.status.number(), x.count) == y && a == b && y.0 == model::status::SUCCESS);
     measure(
         || {
-            black_box(
-                p.library
-                    .save_journal(black_box(&p.rings[0]), black_box(&mut a)),
-            );
+            black_box(p.library.save_journal(
+                black_box(&p.rings[0]),
+                black_box(form),
+                black_box(&mut a),
+            ));
         },
         || {
             black_box(model::save_journal(
                 &p.model,
                 black_box(&p.rings[1]),
+                black_box(form),
                 black_box(&mut b),
             ));
         },
     )
 }
 
-/// Loads of the journal's image, each into a record without a journal.
-fn loads(p: &Pair) -> Timed {
+/// The journal's image in a form.
+fn image(p: &Pair, form: u32) -> Vec<u8> {
+    let mut image = vec![0; p.rings[0].len() + 32];
+    let saved = p.library.save_journal(&p.rings[0], form, &mut image);
+    assert_eq!(saved.status, lanhduxe::Status::Success);
+    image.truncate(saved.count);
+    image
+}
+
+/// Moves of the journal's image from a form to the other.
+fn moves(p: &Pair, from: u32) -> Timed {
+    let room = p.rings[0].len() + 32;
+    let image = image(p, from);
+    let (mut a, mut b) = (vec![0; room], vec![0; room]);
+    let x = lanhduxe::move_image(&image, from, &mut a);
+    let y = model::move_image(&image, from, &mut b);
+    assert!((x.status.number(), x.count) == y && a == b && y.0 == model::status::SUCCESS);
+    measure(
+        || {
+            black_box(lanhduxe::move_image(
+                black_box(&image),
+                black_box(from),
+                black_box(&mut a),
+            ));
+        },
+        || {
+            black_box(model::move_image(
+                black_box(&image),
+                black_box(from),
+                black_box(&mut b),
+            ));
+        },
+    )
+}
+
+/// Loads of the journal's image in a form, each into a record without a journal.
+fn loads(p: &Pair, form: u32) -> Timed {
     let capacity = p.library.capacity;
-    let mut image = vec![0; capacity as usize + 32];
-    let saved = p.library.save_journal(&p.rings[0], &mut image);
-    let image = &image[..saved.count];
+    let image = &image(p, form)[..];
     let mut rings = [vec![0; capacity as usize], vec![0; capacity as usize]];
     let [a, b] = &mut rings;
     let idle = lanhduxe::Volume {
@@ -498,12 +533,28 @@ fn main() {
     for (size, p) in [(2, &short), (24, &usual), (510, &long)] {
         row(
             &format!("save of a full ring of 64 KiB, names of {size} bytes"),
-            &saves(p),
+            &saves(p, 1),
         );
         row(
             &format!("load of a full ring of 64 KiB, names of {size} bytes"),
-            &loads(p),
+            &loads(p, 1),
         );
+    }
+    row(
+        "save of a full ring of 64 KiB in form 2, names of 2 bytes",
+        &saves(&short, 2),
+    );
+    row(
+        "load of form 2, ring of 64 KiB, names of 2 bytes",
+        &loads(&short, 2),
+    );
+    for (direction, from) in [("up", 1), ("down", 2)] {
+        for (size, p) in [(2, &short), (24, &usual), (510, &long)] {
+            row(
+                &format!("move {direction} of a full image, names of {size} bytes"),
+                &moves(p, from),
+            );
+        }
     }
     for version in [2, 3] {
         row(
@@ -531,11 +582,11 @@ fn main() {
     }
     heading("save of a full ring, names of 2 bytes, capacity");
     for c in capacities {
-        row(&c.to_string(), &saves(&full(c, 2)));
+        row(&c.to_string(), &saves(&full(c, 2), 1));
     }
     heading("load of a full ring, names of 2 bytes, capacity");
     for c in capacities {
-        row(&c.to_string(), &loads(&full(c, 2)));
+        row(&c.to_string(), &loads(&full(c, 2), 1));
     }
     println!(
         "\n30 posts a second on a full ring of 64 KiB take {:.4} % of a processor's time.",

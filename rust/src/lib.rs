@@ -22,7 +22,7 @@
 //! Create a journal, post one change, read it back and walk the reply:
 //!
 //! ```
-//! use lanhduxe::{walk_reply, Change, FileId, Status, Volume};
+//! use lanhduxe::{move_image, walk_reply, Change, FileId, Status, Volume};
 //!
 //! let mut ring = vec![0; 1024];
 //! let mut volume = Volume { journal: 1, capacity: 1024, ..Volume::default() };
@@ -46,15 +46,21 @@
 //! let walk = walk_reply(&output[..answer.count]).expect("a whole reply");
 //! assert_eq!((walk.position, walk.count), (80, 1));
 //!
-//! // An image of the journal, to be kept in a file, and the journal from it after a restart.
+//! // An image of the journal, in form 2, to be kept in a file, and the journal from it after a
+//! // restart.
 //! let mut image = [0; 1024 + 32];
-//! let saved = volume.save_journal(&ring, &mut image);
-//! assert_eq!((saved.status, saved.count), (Status::Success, 96));
+//! let saved = volume.save_journal(&ring, 2, &mut image);
+//! assert_eq!((saved.status, saved.count), (Status::Success, 112));
 //!
 //! let mut ring = vec![0; 1024];
 //! let mut volume = Volume { journal: 1, capacity: 1024, ..Volume::default() };
 //! assert_eq!(volume.load_journal(&mut ring, &image[..saved.count], 8), Status::Success);
 //! assert_eq!((volume.first, volume.last), (0, 80));
+//!
+//! // The same image in form 1, for a server that knows no other.
+//! let mut older = [0; 1024 + 32];
+//! let moved = move_image(&image[..saved.count], 2, &mut older);
+//! assert_eq!((moved.status, moved.count), (Status::Success, 96));
 //! ```
 //!
 //! A file with a wide id is read in version 3. In version 2 a reply ends before
@@ -158,6 +164,7 @@ mod c {
             volume: Volume,
             ring: *const u8,
             ring_size: usize,
+            form: u32,
             output: *mut u8,
             output_size: usize,
         ) -> Answer;
@@ -169,6 +176,13 @@ mod c {
             image_size: usize,
             id: u64,
         ) -> u32;
+        pub fn usn_move_image(
+            image: *const u8,
+            image_size: usize,
+            from: u32,
+            output: *mut u8,
+            output_size: usize,
+        ) -> Answer;
         pub fn usn_read_file(
             volume: Volume,
             file: FileRecord,
@@ -293,7 +307,8 @@ pub enum Status {
     InvalidDeviceRequest = 0xC000_0010,
     /// `STATUS_BUFFER_TOO_SMALL`: an input or output buffer is too short.
     BufferTooSmall = 0xC000_0023,
-    /// `STATUS_UNKNOWN_REVISION`: the image has a form that is not known.
+    /// `STATUS_UNKNOWN_REVISION`: a form that is not known, or not the one that
+    /// an image is moved from.
     UnknownRevision = 0xC000_0058,
     /// `STATUS_DISK_FULL`: no position is left for the record, or the ring has
     /// no room for the image's records.
@@ -651,28 +666,30 @@ impl Volume {
         Answer::of(answer, output.len())
     }
 
-    /// Saves the journal as an image, to be loaded after a restart.
+    /// Saves the journal as an image of a form, to be loaded after a restart.
     ///
     /// Lent are the ring, which stays as it is, and the output. The image is the
-    /// kept records back to back in version 2, oldest first, and a trailer of 32
-    /// bytes: a zero `u32`, the bytes before the trailer `u32`, `first` `u64`,
-    /// `id` `u64`, the sum of all other 32-bit words `u32` and the form number 1
-    /// `u32`. An output 32 bytes longer than the ring always has room. What is
-    /// posted later is not in the image.
+    /// kept records back to back, oldest first, in version 2 for form 1 and in
+    /// version 3 for form 2, and a trailer of 32 bytes: a zero `u32`, the bytes
+    /// before the trailer `u32`, `first` `u64`, `id` `u64`, the sum of all other
+    /// 32-bit words `u32` and the form number `u32`. An output 32 bytes longer than
+    /// the ring always has room. What is posted later is not in the image.
     ///
     /// Refusals, in order: [`Status::InvalidDeviceRequest`] without a journal on
-    /// the volume; [`Status::JournalDeleteInProgress`];
-    /// [`Status::JournalNotActive`]; [`Status::FileCorruptError`] as for a post;
-    /// [`Status::NotSupported`] while a record is kept whose file or parent has a
-    /// wide id; [`Status::BufferTooSmall`] if the output is shorter than the image.
+    /// the volume; [`Status::UnknownRevision`] for a form other than 1 and 2;
+    /// [`Status::JournalDeleteInProgress`]; [`Status::JournalNotActive`];
+    /// [`Status::FileCorruptError`] as for a post; [`Status::NotSupported`] for
+    /// form 1 while a record is kept whose file or parent has a wide id;
+    /// [`Status::BufferTooSmall`] if the output is shorter than the image.
     #[inline]
-    pub fn save_journal(&self, ring: &[u8], output: &mut [u8]) -> Answer {
+    pub fn save_journal(&self, ring: &[u8], form: u32, output: &mut [u8]) -> Answer {
         // SAFETY: as in `read_journal`.
         let answer = unsafe {
             c::usn_save_journal(
                 *self,
                 ring.as_ptr(),
                 ring.len(),
+                form,
                 output.as_mut_ptr(),
                 output.len(),
             )
@@ -680,7 +697,7 @@ impl Volume {
         Answer::of(answer, output.len())
     }
 
-    /// Loads an image as a journal with a new id.
+    /// Loads an image of either form as a journal with a new id.
     ///
     /// Lent are the ring and the image, which stays as it is. A load leaves what
     /// a creation at the image's first position and posts of the image's records
@@ -696,7 +713,7 @@ impl Volume {
     /// Refusals, in order: [`Status::InvalidDeviceRequest`] without a journal on
     /// the volume; [`Status::JournalDeleteInProgress`];
     /// [`Status::InvalidParameter`] if active; [`Status::UnknownRevision`] for
-    /// 32 bytes or more whose last four are not the number 1;
+    /// 32 bytes or more whose last four are neither the number 1 nor 2;
     /// [`Status::FileCorruptError`] for what is no image, a wrong capacity or a
     /// ring of another length; [`Status::InvalidParameter`] if `id` is 0, the
     /// image's or the last one used; [`Status::DiskFull`] if the records span
@@ -823,6 +840,35 @@ impl Volume {
         };
         Answer::of(answer, output.len())
     }
+}
+
+/// Moves an image from one form to the other: from form 1 to form 2, or from 2 to
+/// 1.
+///
+/// Lent are the image, which stays as it is, and the output. The moved image has
+/// the same records, Usns, first position and journal id. It is what saving the
+/// journal in the other form would have written, and moving it back gives the
+/// image again. An output of 65,568 bytes always has room.
+///
+/// Refusals, in order: [`Status::UnknownRevision`] if `from` is neither 1 nor 2,
+/// or for 32 bytes or more whose last four are not the number `from`;
+/// [`Status::FileCorruptError`] for what is no image; [`Status::NotSupported`]
+/// from form 2 if the file or the parent of a record has a wide id;
+/// [`Status::BufferTooSmall`] if the output is shorter than the moved image.
+#[inline]
+pub fn move_image(image: &[u8], from: u32, output: &mut [u8]) -> Answer {
+    // SAFETY: each pointer and length comes from a live borrow; that of the
+    // output is exclusive.
+    let answer = unsafe {
+        c::usn_move_image(
+            image.as_ptr(),
+            image.len(),
+            from,
+            output.as_mut_ptr(),
+            output.len(),
+        )
+    };
+    Answer::of(answer, output.len())
 }
 
 /// The fields of one record.

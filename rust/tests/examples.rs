@@ -3,7 +3,7 @@
 mod common;
 
 use common::{expected, lay_out, region_input};
-use lanhduxe::{list_reply, read_record, walk_reply};
+use lanhduxe::{list_reply, move_image, read_record, walk_reply};
 use lanhduxe::{Answer, Change, FileId, FileRecord, Link, Status, Volume};
 
 /// A volume that supports everything, with an idle journal.
@@ -82,6 +82,7 @@ fn the_random_tests_see_every_status() {
         &expected::JOURNAL[..],
         &expected::SAVE,
         &expected::LOAD,
+        &expected::MOVE,
         &expected::FILE,
         &expected::REGIONS,
         &expected::REPARSE,
@@ -408,9 +409,9 @@ fn a_journal_is_deleted_and_created_again() {
     assert_eq!((volume.first, volume.last, volume.id), (1040, 1040, 8));
 }
 
-/// The image of a journal with id 7 and one record, from position 4,096 on. The
-/// sum is that of the words 64, 2, 41, 5, 4,176, 256, 128, 2 + 60 * 65,536, 97;
-/// 64, 4,096, 7, 1.
+/// The image of a journal with id 7 and one record, from position 4,096 on, of form
+/// number 1. The sum is that of the words 64, 2, 41, 5, 4,176, 256, 128,
+/// 2 + 60 * 65,536, 97; 64, 4,096, 7, 1.
 #[rustfmt::skip]
 const IMAGE: [u8; 96] = [
     64, 0, 0, 0, 2, 0, 0, 0, 41, 0, 0, 0, 0, 0, 0, 0,
@@ -421,8 +422,52 @@ const IMAGE: [u8; 96] = [
     7, 0, 0, 0, 0, 0, 0, 0, 0xEB, 0x22, 60, 0, 1, 0, 0, 0,
 ];
 
+/// The same image in form 2. The sum is that of the words 80, 3, 41, 5, 4,176, 256,
+/// 128, 2 + 76 * 65,536, 97; 80, 4,096, 7, 2.
+#[rustfmt::skip]
+const IMAGE_2: [u8; 112] = [
+    80, 0, 0, 0, 3, 0, 0, 0, 41, 0, 0, 0, 0, 0, 0, 0,
+    0, 0, 0, 0, 0, 0, 0, 0, 5, 0, 0, 0, 0, 0, 0, 0,
+    0, 0, 0, 0, 0, 0, 0, 0, 0x50, 0x10, 0, 0, 0, 0, 0, 0,
+    0, 0, 0, 0, 0, 0, 0, 0, 0, 1, 0, 0, 0, 0, 0, 0,
+    0, 0, 0, 0, 0x80, 0, 0, 0, 2, 0, 76, 0, 0x61, 0, 0, 0,
+    0, 0, 0, 0, 80, 0, 0, 0, 0, 0x10, 0, 0, 0, 0, 0, 0,
+    7, 0, 0, 0, 0, 0, 0, 0, 0x0D, 0x23, 76, 0, 2, 0, 0, 0,
+];
+
+#[test]
+fn an_image_is_moved_up_and_down() {
+    for (image, from, moved) in [(&IMAGE[..], 1, &IMAGE_2[..]), (&IMAGE_2, 2, &IMAGE)] {
+        let mut output = [0xEE; 120];
+        let short = move_image(image, from, &mut output[..moved.len() - 1]);
+        assert_eq!(short, refused(Status::BufferTooSmall));
+        let other = move_image(image, 3 - from, &mut output);
+        assert_eq!(other, refused(Status::UnknownRevision));
+        let cut = move_image(&image[1..], from, &mut output);
+        assert_eq!(cut, refused(Status::FileCorruptError));
+        assert_eq!(output, [0xEE; 120]);
+        assert_eq!(move_image(image, from, &mut output), success(moved.len()));
+        assert_eq!(output[..moved.len()], *moved);
+        assert!(output[moved.len()..].iter().all(|byte| *byte == 0xEE));
+    }
+    // Of the file's id, byte 8: the sum is larger by 1.
+    let mut wide = IMAGE_2;
+    wide[16] = 1;
+    wide[104] += 1;
+    let mut output = [0xEE; 120];
+    let refusal = move_image(&wide, 2, &mut output);
+    assert_eq!(refusal, refused(Status::NotSupported));
+    assert_eq!(output, [0xEE; 120]);
+}
+
 #[test]
 fn a_journal_is_saved_and_loaded() {
+    a_journal_is_saved_and_loaded_in(1, &IMAGE);
+    a_journal_is_saved_and_loaded_in(2, &IMAGE_2);
+}
+
+fn a_journal_is_saved_and_loaded_in(form: u32, image: &[u8]) {
+    let length = image.len();
     let mut saved = Volume {
         last: 4096,
         ..volume(1024)
@@ -438,21 +483,24 @@ fn a_journal_is_saved_and_loaded() {
     let status = saved.post(&mut ring, &change, b"a\0", &mut 0);
     assert_eq!(status, Status::Success);
 
-    let mut output = [0xEE; 100];
-    let short = saved.save_journal(&ring, &mut output[..95]);
+    let mut output = vec![0xEE; length + 4];
+    let short = saved.save_journal(&ring, form, &mut output[..length - 1]);
     assert_eq!(short, refused(Status::BufferTooSmall));
-    assert_eq!(output, [0xEE; 100]);
-    assert_eq!(saved.save_journal(&ring, &mut output), success(96));
-    assert_eq!((&output[..96], &output[96..]), (&IMAGE[..], &[0xEE; 4][..]));
+    let unknown = saved.save_journal(&ring, 3, &mut output);
+    assert_eq!(unknown, refused(Status::UnknownRevision));
+    assert_eq!(output, vec![0xEE; length + 4]);
+    let answer = saved.save_journal(&ring, form, &mut output);
+    assert_eq!(answer, success(length));
+    assert_eq!(output, [image, &[0xEE; 4]].concat());
 
     let mut loaded = volume(4096);
     let mut other = vec![0xEE; 4096];
     let mut load = |image: &[u8], id| loaded.load_journal(&mut other, image, id);
-    assert_eq!(load(&IMAGE[..95], 8), Status::UnknownRevision);
-    assert_eq!(load(&IMAGE[1..], 8), Status::FileCorruptError);
-    assert_eq!(load(&IMAGE, 7), Status::InvalidParameter);
-    assert_eq!(load(&IMAGE, 8), Status::Success);
-    assert_eq!(load(&IMAGE, 9), Status::InvalidParameter);
+    assert_eq!(load(&image[..length - 1], 8), Status::UnknownRevision);
+    assert_eq!(load(&image[1..], 8), Status::FileCorruptError);
+    assert_eq!(load(image, 7), Status::InvalidParameter);
+    assert_eq!(load(image, 8), Status::Success);
+    assert_eq!(load(image, 9), Status::InvalidParameter);
     let expected = Volume {
         state: 1,
         id: 8,

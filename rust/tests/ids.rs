@@ -1,17 +1,18 @@
 //! Ids of 128 bits. Version 3 of a record shows all of them. Version 2 cannot show
 //! a wide one, of which one of the upper eight bytes is not 0: a reply ends before
-//! such a record, and a read, a file read or a save that would have to show it is
-//! refused.
+//! such a record, and a read, a file read, a save in form 1 or a move to it that
+//! would have to show it is refused.
 //!
 //! What is due is said here, and not by the model, but for the random calls at the
 //! end.
 
 mod common;
 
-use common::journal::{behind, gave, given, refused, success, Given, Journal, CAPACITY};
+use common::journal::{behind, gave, given, moved, refused, success, Given, Journal, CAPACITY};
 use common::{check, image, is_wide, lay_out, record_length, selects};
 use common::{model_change, model_file, model_links, model_volume};
-use common::{Counts, Hex, Lent, ReadInput, Rng, CHANGE, GUARD, NEGATIVE, TRAILER};
+use common::{version_of, Counts, Hex, Lent, ReadInput, Rng, CHANGE, FORMS, GUARD, NEGATIVE};
+use common::{NO_FORMS, TRAILER};
 use lanhduxe::Status::{self, *};
 use lanhduxe::{list_reply, read_record, walk_reply};
 use lanhduxe::{Change, FileId, FileRecord, Link, Record, Volume};
@@ -143,7 +144,10 @@ fn version_3_shows_all_bytes() {
     let shown = [&4176u64.to_le_bytes()[..], &RECORD].concat();
     assert_eq!(journal.read(0, !0, 3, 88), gave(shown.clone()));
     assert_eq!(journal.read(0, !0, 2, 600), refused(NotSupported));
-    assert_eq!(journal.save(1000), refused(NotSupported));
+    assert_eq!(journal.save(1, 1000), refused(NotSupported));
+    let saved = image(2, &RECORD, 4096, 7);
+    assert_eq!(journal.save(2, 1000), gave(saved.clone()));
+    assert_eq!(moved(&saved, 2, 1000), refused(NotSupported));
 
     let walk = walk_reply(&shown).expect("a whole reply");
     assert_eq!((walk.position, walk.count), (4176, 1));
@@ -444,13 +448,16 @@ fn upper_bytes_are_found_across_the_end_of_the_ring() {
                     let end = first + 160;
                     let shown = reply(end, 3, first, &changes);
                     assert_eq!(journal.read(0, 1, 3, 600), shown, "{pair:?} {cut}");
-                    let saved = image(&laid_out(2, first, &changes), first, 7);
+                    let full = image(2, &laid_out(3, first, &changes), first, 7);
+                    let saved = image(1, &laid_out(2, first, &changes), first, 7);
                     let (read, saved) = match byte < 8 {
                         true => (reply(end, 2, first, &changes), gave(saved)),
                         false => (refused(NotSupported), refused(NotSupported)),
                     };
                     assert_eq!(journal.read(0, 1, 2, 600), read, "{pair:?} {cut}");
-                    assert_eq!(journal.save(600), saved, "{pair:?} {cut}");
+                    assert_eq!(journal.save(1, 600), saved, "{pair:?} {cut}");
+                    assert_eq!(moved(&full, 2, 600), saved, "{pair:?} {cut}");
+                    assert_eq!(journal.save(2, 600), gave(full), "{pair:?} {cut}");
                     rings += 1;
                 }
             }
@@ -620,32 +627,45 @@ fn regions_and_reparse_points_have_no_ids() {
 
 // ---- Saving and loading.
 
-/// A save is refused while a record with a wide id is kept, whatever the room is,
-/// and done again once the record is dropped.
+/// A save in form 1 is refused while a record with a wide id is kept, whatever the
+/// room is, and done again once the record is dropped. Form 2 has room for it, and
+/// the image is not moved to form 1.
 #[test]
-fn no_image_is_written_while_a_wide_id_is_kept() {
+fn no_image_of_form_1_is_written_while_a_wide_id_is_kept() {
     for pair in wide_pairs() {
         let mut journal = Journal::of(4096, &[narrow(1)]);
-        assert_eq!(journal.save(95), refused(BufferTooSmall));
-        let first = image(&laid_out(2, 4096, &[narrow(1)]), 4096, 7);
-        assert_eq!(journal.save(96), gave(first));
+        assert_eq!(journal.save(1, 95), refused(BufferTooSmall));
+        let first = image(1, &laid_out(2, 4096, &[narrow(1)]), 4096, 7);
+        assert_eq!(journal.save(1, 96), gave(first));
         journal.add(&change(pair, 1));
+        let both = laid_out(3, 4096, &[narrow(1), change(pair, 1)]);
+        let both = image(2, &both, 4096, 7);
+        assert_eq!(journal.save(2, 192), gave(both.clone()), "{pair:?}");
+        assert_eq!(journal.save(2, 191), refused(BufferTooSmall), "{pair:?}");
+        let unsupported = refused(NotSupported);
         for room in (0..=32).chain(158..=162).chain([2000]) {
-            assert_eq!(journal.save(room), refused(NotSupported), "{pair:?} {room}");
+            assert_eq!(journal.save(1, room), unsupported, "{pair:?} {room}");
+            assert_eq!(moved(&both, 2, room), unsupported, "{pair:?} {room}");
         }
         // The ring keeps twelve records: eleven behind this one, then it goes.
         for _ in 0..11 {
-            assert_eq!(journal.save(2000), refused(NotSupported), "{pair:?}");
+            assert_eq!(journal.save(1, 2000), unsupported, "{pair:?}");
             journal.add(&narrow(1));
         }
         assert_eq!(journal.volume.first, 4096 + 80);
-        assert_eq!(journal.save(2000), refused(NotSupported), "{pair:?}");
+        assert_eq!(journal.save(1, 2000), unsupported, "{pair:?}");
+        let full = journal.save(2, 2000).1;
+        assert_eq!(moved(&full, 2, 2000), unsupported, "{pair:?}");
         journal.add(&narrow(1));
         assert_eq!(journal.volume.first, 4096 + 160);
         let rest = laid_out(2, 4096 + 160, &[narrow(1); 12]);
-        let saved = image(&rest, 4096 + 160, 7);
-        assert_eq!(journal.save(2000), gave(saved), "{pair:?}");
-        assert_eq!(journal.save(12 * 64 + TRAILER - 1), refused(BufferTooSmall));
+        let saved = gave(image(1, &rest, 4096 + 160, 7));
+        assert_eq!(journal.save(1, 2000), saved, "{pair:?}");
+        let full = journal.save(2, 2000).1;
+        assert_eq!(moved(&full, 2, 2000), saved, "{pair:?}");
+        let room = 12 * 64 + TRAILER - 1;
+        assert_eq!(journal.save(1, room), refused(BufferTooSmall));
+        assert_eq!(moved(&full, 2, room), refused(BufferTooSmall));
     }
 }
 
@@ -680,37 +700,83 @@ fn a_save_gives_its_first_status() {
         (wide.clone(), NotSupported),
     ] {
         for room in [0, 31, 159, 160, 2000] {
-            assert_eq!(
-                journal.save(room),
-                refused(due),
-                "{:?} {room}",
-                journal.volume
-            );
+            let saved = |form| journal.save(form, room);
+            assert_eq!(saved(1), refused(due), "{:?} {room}", journal.volume);
+            // Right behind the volume's support.
+            let unknown = match due {
+                InvalidDeviceRequest => due,
+                _ => UnknownRevision,
+            };
+            for form in NO_FORMS {
+                assert_eq!(saved(form), refused(unknown), "{form}");
+            }
+            match due {
+                NotSupported => {
+                    let due = if room < 192 { BufferTooSmall } else { Success };
+                    assert_eq!(saved(2).0.status, due, "{room}");
+                }
+                _ => assert_eq!(saved(2), refused(due), "{:?} {room}", journal.volume),
+            }
         }
     }
 }
 
-/// The ids of an image have eight bytes, which are kept with eight zeroes.
+/// The ids of an image of form 1 have eight bytes, which are kept with eight
+/// zeroes, and so is the image moved to form 2.
 #[test]
 fn an_image_is_loaded_with_narrow_ids() {
     let all = FileId::from(u64::MAX);
     let changes = [change((all, all), 1), narrow(1)];
     let journal = Journal::of(4096, &changes);
-    let (answer, saved) = journal.save(2000);
+    let (answer, saved) = journal.save(1, 2000);
     assert_eq!(answer, success(2 * 64 + TRAILER));
     assert_eq!(saved[8..24], [0xFF; 16]);
+    let (answer, full) = moved(&saved, 1, 2000);
+    assert_eq!(answer, success(2 * 80 + TRAILER));
+    let ids = [[0xFF; 8], [0; 8], [0xFF; 8], [0; 8]].concat();
+    assert_eq!(full[8..40], ids);
 
-    let mut loaded = Journal::idle(0);
-    assert_eq!(loaded.load(&saved, 8), Success);
-    assert_eq!(loaded.ring, journal.ring);
-    assert_eq!(
-        loaded.ring[8..40],
-        [[0xFF; 8], [0; 8], [0xFF; 8], [0; 8]].concat()
-    );
-    for version in [2, 3] {
-        let due = reply(4096 + 160, version, 4096, &changes);
-        assert_eq!(loaded.read(0, 1, version, 600), due);
+    for image in [saved, full] {
+        let mut loaded = Journal::idle(0);
+        assert_eq!(loaded.load(&image, 8), Success);
+        assert_eq!(loaded.ring, journal.ring);
+        assert_eq!(loaded.ring[8..40], ids);
+        for version in [2, 3] {
+            let due = reply(4096 + 160, version, 4096, &changes);
+            assert_eq!(loaded.read(0, 1, version, 600), due);
+        }
     }
+}
+
+/// Each byte of both ids comes back from an image of form 2, wide or not. A move to
+/// form 1 and back gives the image again, unless there is a wide id.
+#[test]
+fn an_image_of_form_2_is_loaded_with_all_ids() {
+    let mut images = 0;
+    for byte in 0..16 {
+        for value in [1, 0x80, 0xFF] {
+            let id = with_byte(byte, value);
+            for pair in [(id, CHANGE.parent), (CHANGE.file, id), (id, id)] {
+                let changes = [narrow(1), change(pair, 1), narrow(1)];
+                let journal = Journal::of(4096, &changes);
+                let saved = journal.save(2, 272);
+                let due = image(2, &laid_out(3, 4096, &changes), 4096, 7);
+                assert_eq!(saved, gave(due), "{pair:?}");
+                let mut loaded = Journal::idle(0);
+                assert_eq!(loaded.load(&saved.1, 8), Success);
+                assert_eq!(loaded.ring, journal.ring, "{pair:?}");
+
+                let down = moved(&saved.1, 2, 272);
+                assert_eq!(down, journal.save(1, 272), "{pair:?}");
+                match byte < 8 {
+                    true => assert_eq!(moved(&down.1, 1, 272), saved, "{pair:?}"),
+                    false => assert_eq!(down, refused(NotSupported), "{pair:?}"),
+                }
+                images += 1;
+            }
+        }
+    }
+    assert_eq!(images, 16 * 3 * 3);
 }
 
 // ---- Readers of both versions over mixed journals.
@@ -1104,7 +1170,12 @@ impl Run {
     }
 
     fn save(&mut self, both: &Both) {
-        let lengths = both.kept.iter().map(|kept| record_length(2, kept.name));
+        let form = self.rng.pick(&FORMS);
+        let version = version_of(form);
+        let lengths = both
+            .kept
+            .iter()
+            .map(|kept| record_length(version, kept.name));
         let length = TRAILER + lengths.sum::<usize>();
         let room = match self.rng.below(4) {
             0 => self.rng.below(length as u64) as usize,
@@ -1116,9 +1187,13 @@ impl Run {
         let lent = both.volume.capacity as usize;
         let answer = both
             .volume
-            .save_journal(&both.ring[..lent], output.for_library());
-        let by_model =
-            model::save_journal(&both.model, &both.model_ring[..lent], output.for_model());
+            .save_journal(&both.ring[..lent], form, output.for_library());
+        let by_model = model::save_journal(
+            &both.model,
+            &both.model_ring[..lent],
+            form,
+            output.for_model(),
+        );
         self.saves.add(answer.status);
         check(
             (answer.status.number(), answer.count) == by_model
@@ -1128,7 +1203,7 @@ impl Run {
             self.index,
             || {
                 format!(
-                    "save: library {answer:?}, model {by_model:x?}, room {room}\n\
+                    "save in {form}: library {answer:?}, model {by_model:x?}, room {room}\n\
                      library's {:?}\nmodel's {:?}\n{}",
                     Hex(&output.library),
                     Hex(&output.model),

@@ -1,14 +1,17 @@
-//! Saving a journal to an image and loading it again, the library against the
-//! model: on random journals and images, on images that are cut or changed, and
-//! on images made by hand around every limit.
+//! Saving a journal to an image and loading it again, in both forms, the library
+//! against the model: on random journals and images, on images that are cut or
+//! changed, which are not moved either, and on images made by hand around every
+//! limit.
 
 mod common;
 
-use common::{change, change_of, check, expected, image, lay_out, CHANGE};
-use common::{model_volume, record_length, seal};
-use common::{Counts, Hex, Lent, Rng, NEGATIVE, TRAILER};
+use common::images::{body, due_of_load, due_of_move, first_and_id, has_wide, idle, image_of};
+use common::images::{laid_anew, long, names, records, samples, stated, trailer_in_a_record};
+use common::images::{try_sets, usn_place, word, Fault, Journal, Moves};
+use common::{change_of, check, expected, image, lay_out, model_volume, other_form, seal};
+use common::{version_of, Counts, Hex, Lent, Rng, CHANGE, FORMS, NEGATIVE, NO_FORMS, TRAILER};
 use lanhduxe::Status::{self, *};
-use lanhduxe::{read_record, Change, FileId, Record, Volume};
+use lanhduxe::{Change, Volume};
 
 /// How often each of the two is called at random, at the least.
 const CALLS: u64 = 100_000;
@@ -22,13 +25,6 @@ struct Run {
     index: u64,
 }
 
-/// A volume record and its ring.
-#[derive(Clone)]
-struct Journal {
-    volume: Volume,
-    ring: Vec<u8>,
-}
-
 impl Run {
     fn new(test: &'static str) -> Run {
         Run {
@@ -40,16 +36,17 @@ impl Run {
         }
     }
 
-    /// Saves into an output of `room` bytes and compares. Gives the status and
-    /// the image.
-    fn save(&mut self, journal: &Journal, room: usize) -> (Status, Vec<u8>) {
+    /// Saves in a form into an output of `room` bytes and compares. Gives the
+    /// status and the image.
+    fn save(&mut self, journal: &Journal, form: u32, room: usize) -> (Status, Vec<u8>) {
         let mut ring = Lent::holding(&mut self.rng, &journal.ring);
         let mut output = Lent::output(&mut self.rng, room);
         let volume = journal.volume;
-        let answer = volume.save_journal(ring.for_library(), output.for_library());
+        let answer = volume.save_journal(ring.for_library(), form, output.for_library());
         let model = model::save_journal(
             &model_volume(&volume),
             &journal.ring,
+            form,
             &mut output.model[..room],
         );
         self.saves.add(answer.status);
@@ -62,8 +59,8 @@ impl Run {
             self.index,
             || {
                 format!(
-                    "save: library {answer:?}, model {model:x?}\n{volume:?}\nring {:?}\n\
-                     output before {:?} (lent {room})\nlibrary's {:?}\nmodel's {:?}",
+                    "save in {form}: library {answer:?}, model {model:x?}\n{volume:?}\n\
+                     ring {:?}\noutput before {:?} (lent {room})\nlibrary's {:?}\nmodel's {:?}",
                     Hex(&journal.ring),
                     Hex(&output.before),
                     Hex(&output.library),
@@ -131,7 +128,7 @@ impl Run {
 /// Whether a load changed state, id, first and last alone, to the new id and the
 /// image's positions, and the ring only from first to last.
 fn loaded_frame(before: &Volume, after: &Volume, ring: &Lent, image: &[u8], id: u64) -> bool {
-    let first = long(image, image.len() - TRAILER + 8);
+    let (first, _) = first_and_id(image);
     let expected = Volume {
         state: 1,
         id,
@@ -148,85 +145,9 @@ fn loaded_frame(before: &Volume, after: &Volume, ring: &Lent, image: &[u8], id: 
             .all(|place| ring.library[place] == ring.before[place])
 }
 
-/// The 64-bit number at a place.
-fn long(bytes: &[u8], at: usize) -> u64 {
-    u64::from_le_bytes(bytes[at..at + 8].try_into().expect("eight bytes"))
-}
-
-/// The records of an image, with the places where they begin.
-fn records(image: &[u8]) -> Vec<(usize, Record)> {
-    let body = &image[..image.len() - TRAILER];
-    let mut found = Vec::new();
-    let mut at = 0;
-    while let Some(record) = read_record(body, at) {
-        let next = record.next;
-        found.push((at, record));
-        at = next;
-    }
-    found
-}
-
-/// One of an image's records, and where it begins.
-fn some_record(rng: &mut Rng, image: &[u8]) -> (usize, Record) {
-    let mut records = records(image);
-    records.swap_remove(rng.below(records.len() as u64) as usize)
-}
-
-/// A volume with an idle journal, and nothing but the journal's support.
-fn idle(capacity: u64) -> Volume {
-    Volume {
-        journal: 1,
-        id: 7,
-        capacity,
-        ..Volume::default()
-    }
-}
-
 // ---- Random journals, saves and loads.
 
 impl Run {
-    /// A journal that posts have left: empty, with some records, or gone round.
-    fn journal(&mut self) -> Journal {
-        let rng = &mut self.rng;
-        let capacity = common::capacity(rng);
-        let mut volume = Volume {
-            usn: rng.word(),
-            regions: rng.word(),
-            reparse: rng.word(),
-            points: rng.word(),
-            journal: rng.yes(),
-            last: common::last_usn(rng),
-            capacity,
-            ..Volume::default()
-        };
-        let id = rng.long().max(1);
-        assert_eq!(volume.create(id), Success);
-        let ring = rng.bytes(capacity as usize);
-        let mut journal = Journal { volume, ring };
-        let most = match rng.below(8) {
-            0 => 0,
-            1 => 80,
-            2..=4 => rng.below(capacity),
-            _ => 2 * capacity,
-        };
-        self.post(&mut journal, most);
-        journal
-    }
-
-    /// Posts about so many bytes of records.
-    fn post(&mut self, journal: &mut Journal, most: u64) {
-        let mut posted = 0;
-        while posted < most {
-            let change = change(&mut self.rng);
-            let length = common::name_length(&mut self.rng, 0);
-            let name = common::name(&mut self.rng, length);
-            journal
-                .volume
-                .post(&mut journal.ring, &change, &name, &mut 0);
-            posted += record_length(3, length) as u64;
-        }
-    }
-
     /// The journal after a post with a wide id, and some more posts, which may drop
     /// that record again.
     fn wide_journal(&mut self, journal: &Journal) -> Journal {
@@ -241,7 +162,7 @@ impl Run {
             1 => wide.volume.capacity + self.rng.below(1000),
             _ => self.rng.below(1000),
         };
-        self.post(&mut wide, most);
+        wide.post(&mut self.rng, most, 0);
         wide
     }
 
@@ -288,12 +209,23 @@ impl Run {
         damaged
     }
 
-    /// Saves the journal, one with a wide id or a damaged one, with an output
-    /// around the image's length. Gives the image of the journal.
+    /// Saves the journal, one with a wide id or a damaged one, in forms that are
+    /// known and others, with an output around the image's length. Gives an image
+    /// of the journal.
     fn random_save(&mut self, journal: &Journal) -> Vec<u8> {
         let room = journal.ring.len() + TRAILER;
-        let (status, image) = self.save(journal, room);
+        let (status, two) = self.save(journal, 2, room);
         assert_eq!(status, Success, "the room is always enough");
+        let (status, one) = self.save(journal, 1, room);
+        let due = match has_wide(&two) {
+            true => NotSupported,
+            false => Success,
+        };
+        assert_eq!(status, due);
+        let image = match status == Success && self.rng.percent(50) {
+            true => one,
+            false => two,
+        };
         for _ in 0..self.rng.between(1, 4) {
             let room = match self.rng.below(6) {
                 0 => self.rng.below(64) as usize,
@@ -301,120 +233,27 @@ impl Run {
                 2..=4 => self.rng.around(image.len() as u64) as usize,
                 _ => room,
             };
+            let form = match self.rng.below(16) {
+                0 => self.rng.pick(&NO_FORMS),
+                1 => self.rng.word(),
+                2..=4 => self.rng.pick(&FORMS),
+                _ => stated(&image).expect("an image"),
+            };
             match self.rng.below(6) {
                 0..=2 => {
                     let damaged = self.damaged_journal(journal);
-                    self.save(&damaged, room);
+                    self.save(&damaged, form, room);
                 }
                 3 => {
                     let wide = self.wide_journal(journal);
-                    self.save(&wide, room);
+                    self.save(&wide, form, room);
                 }
                 _ => {
-                    self.save(journal, room);
+                    self.save(journal, form, room);
                 }
             }
         }
         image
-    }
-
-    /// An image with something changed: sound ones too, where its sum is put
-    /// right behind a change that does no harm.
-    fn changed_image(&mut self, image: &[u8]) -> Vec<u8> {
-        let rng = &mut self.rng;
-        let mut changed = image.to_vec();
-        let trailer = image.len() - TRAILER;
-        match rng.below(13) {
-            0 => {
-                let at = rng.below(image.len() as u64) as usize;
-                changed[at] ^= 1 << rng.below(8);
-            }
-            1..=2 => {
-                let at = 4 * rng.below(image.len() as u64 / 4) as usize;
-                changed[at..at + 4].copy_from_slice(&rng.word().to_le_bytes());
-            }
-            // A field of the trailer, to a number that is near or any.
-            3..=5 => {
-                let (at, size) = rng.pick(&[(0, 4), (4, 4), (8, 8), (16, 8), (24, 4), (28, 4)]);
-                let field = &mut changed[trailer + at..trailer + at + size];
-                let mut number = [0; 8];
-                number[..size].copy_from_slice(field);
-                let number = u64::from_le_bytes(number);
-                let step = rng.pick(&[1, 4, 8, 80, 1 << 31]);
-                let any = rng.long();
-                let number = rng.pick(&[number ^ step, number.wrapping_add(step), any, 0]);
-                field.copy_from_slice(&number.to_le_bytes()[..size]);
-            }
-            6 => changed.truncate(rng.below(image.len() as u64) as usize),
-            7 => {
-                let more = rng.between(1, 40) as usize;
-                changed.extend(rng.bytes(more));
-            }
-            // A field of a record, to none, all, or one bit more or less.
-            8..=9 if trailer > 0 => {
-                let (record, _) = some_record(rng, image);
-                let fields = [(0, 4), (4, 4), (24, 8), (40, 4), (52, 4), (56, 2), (58, 2)];
-                let (at, size) = rng.pick(&fields);
-                let bit = rng.below(8 * size as u64) as usize;
-                let field = &mut changed[record + at..record + at + size];
-                match rng.below(3) {
-                    0 => field.fill(0),
-                    1 => field.fill(0xFF),
-                    _ => field[bit / 8] ^= 1 << (bit % 8),
-                }
-            }
-            // A unit of a name.
-            10 if trailer > 0 => {
-                let (_, record) = some_record(rng, image);
-                common::plant_some(rng, &mut changed[record.name]);
-            }
-            // The records behind one of them: an image again.
-            11 if trailer > 0 => {
-                let (_, record) = some_record(rng, image);
-                let body = &image[record.next..trailer];
-                changed = common::image(body, record.usn, long(image, trailer + 16));
-            }
-            _ => {
-                let length = rng.below(100) as usize;
-                changed = rng.bytes(length);
-                if let Some(form) = length.checked_sub(4) {
-                    changed[form..].copy_from_slice(&[1, 0, 0, 0]);
-                }
-            }
-        }
-        if self.rng.percent(60) {
-            seal(&mut changed);
-        }
-        changed
-    }
-
-    /// An image made by the layout alone. Its records may span too much, have a
-    /// wrong name, by its length or by a unit, or no Reason, or pass the last
-    /// position.
-    fn made_image(&mut self) -> Vec<u8> {
-        let rng = &mut self.rng;
-        let first = common::last_usn(rng) + rng.pick(&[0, 0, 0, 0, 0, 0, 0, 4]);
-        let most = match rng.below(8) {
-            0 => 65_536 + rng.pick(&[0, 80, 592]),
-            _ => rng.below(3000),
-        };
-        let (no_reason, bad_names) = (rng.percent(10), 20 * rng.below(2));
-        let planted = rng.pick(&[40, u64::MAX]);
-        let mut body = Vec::new();
-        let mut last = first;
-        loop {
-            let mut change = change(rng);
-            if !no_reason {
-                change.reason |= 1;
-            }
-            let length = common::name_length(rng, bad_names);
-            last += record_length(3, length) as u64;
-            if last - first > most {
-                return image(&body, first, rng.long());
-            }
-            let name = common::any_name(rng, length, planted);
-            body.extend(lay_out(2, &change, last, &name));
-        }
     }
 
     /// A volume record to load into: mostly one that will do.
@@ -456,8 +295,12 @@ impl Run {
     fn random_load(&mut self, journal: &Journal, image: &[u8]) -> Option<Journal> {
         let image = match self.rng.below(16) {
             0..=6 => image.to_vec(),
-            7..=13 => self.changed_image(image),
-            _ => self.made_image(),
+            7..=13 => common::images::changed(&mut self.rng, image),
+            _ => {
+                let form = self.rng.pick(&FORMS);
+                let wide = common::share_of_wide(&mut self.rng);
+                common::images::made(&mut self.rng, form, wide)
+            }
         };
         let (before, lent) = self.target(journal);
         let own = image.len().checked_sub(16).map_or(0, |at| long(&image, at));
@@ -489,24 +332,33 @@ impl Run {
         Some(loaded)
     }
 
-    /// A loaded journal is saved to the image that it came from, but for the id.
+    /// A loaded journal is saved to the image that it came from, but for the id, and
+    /// to the same records in the other form, unless one has a wide id.
     fn comes_back(&mut self, loaded: &Journal, image: &[u8]) {
+        let own = stated(image).expect("an image");
+        let id = loaded.volume.id;
         let trailer = image.len() - TRAILER;
-        let expected = common::image(&image[..trailer], loaded.volume.first, loaded.volume.id);
-        let (status, saved) = self.save(loaded, image.len());
-        check(
-            status == Success && saved == expected,
-            self.test,
-            self.index - 1,
-            || format!("{status}\nloaded {:?}\nsaved {:?}", Hex(image), Hex(&saved)),
-        );
+        let (first, _) = first_and_id(image);
+        let expected = common::image(own, &image[..trailer], first, id);
+        let other = match own == 2 && has_wide(image) {
+            true => (NotSupported, Vec::new()),
+            false => (Success, laid_anew(image, other_form(own), id)),
+        };
+        for (form, due) in [(own, (Success, expected)), (other_form(own), other)] {
+            let saved = self.save(loaded, form, 65_536 + TRAILER);
+            check(saved == due, self.test, self.index - 1, || {
+                let (status, bytes) = &saved;
+                let hex = (Hex(image), Hex(bytes), Hex(&due.1));
+                format!("{status} in {form}: loaded, saved and due {hex:?}")
+            });
+        }
     }
 }
 
 /// What a creation at the image's first position and posts of its records leave.
 fn posted(before: &Volume, ring: &[u8], image: &[u8], id: u64) -> Journal {
     let mut volume = Volume {
-        last: long(image, image.len() - TRAILER + 8),
+        last: first_and_id(image).0,
         ..*before
     };
     let mut ring = ring.to_vec();
@@ -523,10 +375,12 @@ fn posted(before: &Volume, ring: &[u8], image: &[u8], id: u64) -> Journal {
 fn random_saves_and_loads_agree_with_the_model() {
     let mut run = Run::new("images");
     let (mut journals, mut loaded) = (0, 0);
-    while run.index < 5 * CALLS / 2 {
-        let mut journal = run.journal();
+    let mut forms = [0; 2];
+    while run.index < 3 * CALLS {
+        let mut journal = Journal::random(&mut run.rng);
         for _ in 0..run.rng.between(1, 12) {
             let image = run.random_save(&journal);
+            forms[usize::from(stated(&image) == Some(2))] += 1;
             let mut next = None;
             for _ in 0..run.rng.between(1, 8) {
                 next = run.random_load(&journal, &image).or(next);
@@ -537,132 +391,89 @@ fn random_saves_and_loads_agree_with_the_model() {
                 journal = next;
             }
             let most = run.rng.below(journal.volume.capacity / 2);
-            run.post(&mut journal, most);
+            let wide = common::share_of_wide(&mut run.rng);
+            journal.post(&mut run.rng, most, wide);
         }
         journals += 1;
     }
-    println!("images: {journals} journals, {loaded} of them went on after a load");
+    println!("images: {journals} journals, {loaded} of them went on after a load, {forms:?}");
     assert!(journals > 500 && loaded > 5000);
+    assert!(forms.iter().all(|count| *count > 5000), "{forms:?}");
     run.saves.finish(&expected::SAVE, CALLS);
     run.loads.finish(&expected::LOAD, CALLS);
 }
 
 // ---- Images that are cut or changed.
 
-/// The status that is due for what is left of an image.
-fn due_of_cut(cut: &[u8]) -> Status {
-    if cut.len() >= TRAILER && !cut.ends_with(&[1, 0, 0, 0]) {
-        UnknownRevision
-    } else {
-        FileCorruptError
+/// Images of both forms, small ones and the longest ones.
+fn images_to_damage(run: &mut Run) -> Vec<Vec<u8>> {
+    let mut images = Vec::new();
+    for form in FORMS {
+        images.extend(samples(&mut run.rng, form));
+        let longest = Journal::longest(&mut run.rng, 20 * (u64::from(form) - 1));
+        let (status, image) = run.save(&longest, form, 65_536 + TRAILER);
+        assert_eq!(status, Success);
+        images.push(image);
     }
+    images
 }
 
-/// Records in version 2 with names of these lengths, from a position on.
-fn body(first: u64, names: &[usize]) -> Vec<u8> {
-    let mut bytes = Vec::new();
-    let mut last = first;
-    for length in names {
-        last += record_length(3, *length) as u64;
-        bytes.extend(lay_out(2, &CHANGE, last, &vec![0x61; *length]));
+/// What is damaged is lent to, and the counts.
+struct Targets {
+    ring: Lent,
+    output: Lent,
+    moves: Moves,
+}
+
+impl Targets {
+    fn new(run: &mut Run, test: &'static str) -> Targets {
+        Targets {
+            ring: Lent::output(&mut run.rng, 65_536),
+            output: Lent::output(&mut run.rng, 65_536 + TRAILER),
+            moves: Moves::new(test),
+        }
     }
-    bytes
-}
 
-/// The image of such records.
-fn image_of(first: u64, names: &[usize]) -> Vec<u8> {
-    image(&body(first, names), first, 7)
-}
-
-/// An image whose one record holds a trailer, from the Usn at 24 to the attributes
-/// that end at 56: cut behind it, the bytes before it, their number, the sum and
-/// the form are right. They are no whole record.
-fn trailer_in_a_record() -> (Vec<u8>, usize) {
-    let usn = 24 << 32; // the zero word, and 24 bytes before it
-    let mut change = Change {
-        time: 4096,
-        reason: 9,
-        source: 0,
-        attributes: 1,
-        ..CHANGE
-    };
-    let whole = |change: &Change| image(&lay_out(2, change, usn, b"a\0"), usn - 80, 7);
-    let inner = image(&whole(&change)[..24], 4096, 9);
-    let sum = inner[48..52].try_into().expect("four bytes");
-    change.security = u32::from_le_bytes(sum);
-    let whole = whole(&change);
-    assert!(whole.starts_with(&inner));
-    (whole, inner.len())
-}
-
-/// Images to cut and to change: the empty one, those with one record and several,
-/// with a record whose words are 1, and with one that holds a trailer.
-fn samples(rng: &mut Rng) -> Vec<Vec<u8>> {
-    let ones = Change {
-        file: FileId::new(0x1_0000_0001),
-        parent: FileId::new(0x1_0000_0001),
-        time: 0x1_0000_0001,
-        reason: 1,
-        source: 1,
-        security: 1,
-        attributes: 1,
-    };
-    let mut several = lay_out(2, &change(rng), 1088, b"a\0");
-    several.extend(lay_out(2, &ones, 1088 + 200, &[0x61; 120]));
-    several.extend(lay_out(2, &CHANGE, 1288 + 592, &common::name(rng, 510)));
-    let mut samples = vec![
-        image_of(4096, &[]),
-        image_of(4096, &[2]),
-        image_of(8, &[4; 12]),
-    ];
-    samples.push(image(&several, 1008, 5));
-    samples.push(trailer_in_a_record().0);
-    samples
-}
-
-/// The image of a full ring of 64 KiB.
-fn longest(run: &mut Run) -> Vec<u8> {
-    let mut journal = Journal {
-        volume: idle(65_536),
-        ring: vec![0; 65_536],
-    };
-    assert_eq!(journal.volume.create(8), Success);
-    run.post(&mut journal, 140_000);
-    run.save(&journal, 65_536 + TRAILER).1
+    /// Neither loads nor moves what is left of an image of a form.
+    fn refuse(&mut self, run: &mut Run, left: &[u8], form: u32, what: &str) {
+        let status = run.load(&idle(65_536), &mut self.ring, left, 99).0;
+        assert_eq!(status, due_of_load(left), "{what}");
+        let moved = self.moves.lend(&mut run.rng, left, form, &mut self.output);
+        assert_eq!(moved, (due_of_move(left, form), Vec::new()), "{what}");
+    }
 }
 
 #[test]
 fn an_image_cut_at_any_byte_is_refused() {
     let mut run = Run::new("cut images");
-    let (holder, cut) = trailer_in_a_record();
-    assert_eq!(due_of_cut(&holder[..cut]), FileCorruptError);
-    let mut images = samples(&mut run.rng);
-    images.push(longest(&mut run));
-    for image in images {
-        let volume = idle(65_536);
-        let mut ring = Lent::output(&mut run.rng, 65_536);
-        for cut in 0..image.len() {
-            let status = run.load(&volume, &mut ring, &image[..cut], 99).0;
-            assert_eq!(status, due_of_cut(&image[..cut]), "cut at {cut}");
-        }
-        assert_eq!(run.load(&volume, &mut ring, &image, 99).0, Success);
+    let mut targets = Targets::new(&mut run, "moves of cut images");
+    for form in FORMS {
+        let (holder, cut) = trailer_in_a_record(form);
+        assert_eq!(due_of_load(&holder[..cut]), FileCorruptError);
+        assert_eq!(due_of_move(&holder[..cut], form), FileCorruptError);
     }
+    for image in images_to_damage(&mut run) {
+        let form = stated(&image).expect("an image");
+        for cut in 0..image.len() {
+            targets.refuse(&mut run, &image[..cut], form, &format!("cut at {cut}"));
+        }
+        run.expect(&idle(65_536), &image, 99, Success, "whole");
+    }
+    let refused = [UnknownRevision, FileCorruptError];
     run.loads
-        .finish(&[Success, UnknownRevision, FileCorruptError], 50_000);
+        .finish(&[&[Success], &refused[..]].concat(), 100_000);
+    targets.moves.counts.finish(&refused, 100_000);
 }
 
 #[test]
 fn an_image_with_one_word_changed_is_refused() {
     let mut run = Run::new("changed images");
-    let mut images = samples(&mut run.rng);
-    images.push(longest(&mut run));
-    for image in images {
-        let volume = idle(65_536);
-        let mut ring = Lent::output(&mut run.rng, 65_536);
+    let mut targets = Targets::new(&mut run, "moves of changed images");
+    for image in images_to_damage(&mut run) {
+        let form = stated(&image).expect("an image");
         let mut changed = image.clone();
         for at in (0..image.len()).step_by(4) {
-            let word = image[at..at + 4].try_into().expect("four bytes");
-            let old = u32::from_le_bytes(word);
+            let old = word(&image, at);
             let bit = old ^ 1 << run.rng.below(32);
             let mut values = vec![bit, run.rng.draw() as u32];
             if image.len() < 2000 {
@@ -671,28 +482,24 @@ fn an_image_with_one_word_changed_is_refused() {
             }
             for value in values.into_iter().filter(|value| *value != old) {
                 changed[at..at + 4].copy_from_slice(&value.to_le_bytes());
-                let status = run.load(&volume, &mut ring, &changed, 99).0;
-                assert_eq!(status, due_of_cut(&changed), "{value} at {at}");
+                targets.refuse(&mut run, &changed, form, &format!("{value} at {at}"));
             }
-            changed[at..at + 4].copy_from_slice(&word);
+            changed[at..at + 4].copy_from_slice(&old.to_le_bytes());
         }
-        assert_eq!(run.load(&volume, &mut ring, &changed, 99).0, Success);
+        run.expect(&idle(65_536), &changed, 99, Success, "unchanged");
     }
+    let refused = [UnknownRevision, FileCorruptError];
     run.loads
-        .finish(&[Success, UnknownRevision, FileCorruptError], 30_000);
+        .finish(&[&[Success], &refused[..]].concat(), 100_000);
+    targets.moves.counts.finish(&refused, 100_000);
 }
 
 // ---- Images and journals around every limit.
 
-/// Names whose records span 80 and 88 bytes, so many of each.
-fn names(short: usize, longer: usize) -> Vec<usize> {
-    [vec![2; short], vec![6; longer]].concat()
-}
-
 /// An image of one record that is right but for some bytes at a place; its sum
 /// is put right.
-fn with(at: usize, bytes: &[u8]) -> Vec<u8> {
-    let mut image = image_of(8, &[2]);
+fn with(form: u32, at: usize, bytes: &[u8]) -> Vec<u8> {
+    let mut image = image_of(form, 8, &[2]);
     image[at..at + bytes.len()].copy_from_slice(bytes);
     seal(&mut image);
     image
@@ -701,8 +508,21 @@ fn with(at: usize, bytes: &[u8]) -> Vec<u8> {
 #[test]
 fn images_around_every_limit() {
     let mut run = Run::new("images by hand");
+    for form in FORMS {
+        around_every_limit(&mut run, form);
+    }
+    run.loads
+        .finish(&[Success, UnknownRevision, DiskFull, FileCorruptError], 120);
+}
+
+fn around_every_limit(run: &mut Run, form: u32) {
+    let version = version_of(form);
+    let image_of = |first, names: &[usize]| image_of(form, first, names);
+    let image = |body: &[u8], first, id| image(form, body, first, id);
+    let with = |at, bytes: &[u8]| with(form, at, bytes);
     let trailer = image_of(8, &[]);
-    let one = body(8, &[2]);
+    let one = body(form, 8, &[2]);
+    let (usn, end) = (usn_place(form), one.len());
     let good = vec![
         ("a trailer alone", trailer.clone()),
         ("position 0", image_of(0, &[])),
@@ -717,8 +537,10 @@ fn images_around_every_limit() {
         ("id 0", image(&one, 8, 0)),
         ("another id", image(&one, 8, u64::MAX)),
         ("another file", with(8, &[0xFF; 8])),
-        ("another time", with(32, &[0; 8])),
+        ("other ids", with(8, &vec![0xFF; usn - 8])),
+        ("another time", with(usn + 8, &[0; 8])),
     ];
+    let other_version = |usn| lay_out(version_of(other_form(form)), &CHANGE, usn, b"a\0");
     let bad = vec![
         ("nothing", Vec::new()),
         ("31 bytes", trailer[1..].to_vec()),
@@ -735,46 +557,67 @@ fn images_around_every_limit() {
         ("past the last position", image_of(NEGATIVE - 80, &[2])),
         ("span 65,544", image_of(8, &names(816, 3))),
         ("span 65,616", image_of(8, &names(818, 2))),
-        ("version 3", image(&lay_out(3, &CHANGE, 88, b"a\0"), 8, 7)),
+        ("the other version", image(&other_version(88), 8, 7)),
         (
-            "version 3 behind version 2",
+            "the other version behind",
+            image(&[&one[..], &other_version(168)].concat(), 8, 7),
+        ),
+        (
+            "the other version before",
             image(
-                &[&one[..], &lay_out(3, &CHANGE, 168, b"a\0")].concat(),
+                &[other_version(88), lay_out(version, &CHANGE, 168, b"a\0")].concat(),
                 8,
                 7,
             ),
         ),
+        ("the other form's number", {
+            let mut image = image(&one, 8, 7);
+            let at = image.len() - 4;
+            image[at] = other_form(form) as u8;
+            seal(&mut image);
+            image
+        }),
         ("a name of 0 bytes", image_of(8, &[0])),
         ("a name of 3 bytes", image_of(8, &[3])),
         ("a name of 512 bytes", image_of(8, &[512])),
-        ("Reason 0", with(40, &[0; 4])),
-        ("attributes 0", with(52, &[0; 4])),
-        ("padding", with(63, &[1])),
-        ("a shorter name than the length says", with(56, &[0])),
-        ("another name offset", with(58, &[76])),
+        ("Reason 0", with(usn + 16, &[0; 4])),
+        ("attributes 0", with(usn + 28, &[0; 4])),
+        ("padding", with(end - 1, &[1])),
+        ("a shorter name than the length says", with(usn + 32, &[0])),
+        (
+            "the other version's name offset",
+            with(usn + 34, &[if form == 1 { 76 } else { 60 }]),
+        ),
         ("a minor version", with(6, &[1])),
-        ("a Usn below", with(24, &80u64.to_le_bytes())),
-        ("a Usn above", with(24, &96u64.to_le_bytes())),
+        ("a Usn below", with(usn, &80u64.to_le_bytes())),
+        ("a Usn above", with(usn, &96u64.to_le_bytes())),
         (
             "a chain by the length in version 2",
-            with(24, &72u64.to_le_bytes()),
+            with(usn, &72u64.to_le_bytes()),
+        ),
+        (
+            "a chain by the length and 16 bytes more",
+            with(usn, &104u64.to_le_bytes()),
         ),
         ("another first position", image(&one, 16, 7)),
         ("two records exchanged", {
-            image(&[&body(88, &[2])[..], &one].concat(), 8, 7)
+            image(&[&body(form, 88, &[2])[..], &one].concat(), 8, 7)
         }),
         ("half a record", image(&one[..32], 8, 7)),
         (
             "zeroes behind the records",
             image(&[&one[..], &[0; 8]].concat(), 8, 7),
         ),
-        ("a word that is not zero", with(64, &[1])),
-        ("a body longer than there is", with(68, &[72])),
-        ("a body shorter than there is", with(68, &[0])),
+        ("a word that is not zero", with(end, &[1])),
+        (
+            "a body longer than there is",
+            with(end + 4, &[end as u8 + 8]),
+        ),
+        ("a body shorter than there is", with(end + 4, &[0])),
         ("a sum over itself", {
             let mut image = image_of(8, &[2]);
             let own = image.len() - 8;
-            let sum = u32::from_le_bytes(image[own..own + 4].try_into().expect("four bytes"));
+            let sum = word(&image, own);
             image[own..own + 4].copy_from_slice(&sum.wrapping_mul(2).to_le_bytes());
             image
         }),
@@ -783,14 +626,14 @@ fn images_around_every_limit() {
         ("32 zeroes", vec![0; 32]),
         ("a byte behind", [&trailer[..], &[0]].concat()),
         (
-            "form 1 and nothing behind it but zeroes",
+            "the form and nothing behind it but zeroes",
             [&trailer[..], &[0; 4]].concat(),
         ),
     ];
-    for form in [0u32, 2, 3, 0x101, 0x0100_0000, u32::MAX] {
+    for number in NO_FORMS {
         let mut image = image_of(8, &[2]);
         let at = image.len() - 4;
-        image[at..].copy_from_slice(&form.to_le_bytes());
+        image[at..].copy_from_slice(&number.to_le_bytes());
         seal(&mut image);
         unknown.push(("another form", image));
     }
@@ -818,35 +661,15 @@ fn images_around_every_limit() {
     for id in [1, 6, 8, u64::MAX] {
         run.expect(&idle(1024), &image_of(8, &[2]), id, Success, "a new id");
     }
-    run.loads
-        .finish(&[Success, UnknownRevision, DiskFull, FileCorruptError], 60);
 }
 
 /// What a load is called with.
 struct Load {
+    form: u32,
     volume: Volume,
     lent: usize,
     image: Vec<u8>,
     id: u64,
-}
-
-/// A fault, and the status that it has if no other comes before.
-type Fault<T> = (Status, fn(&mut T));
-
-/// Every set of faults out of a list in the order of their statuses: `call` is
-/// given what they leave of a call without faults, and has to answer with the
-/// first one's status. Where two change the same thing, the first one's stands.
-fn try_sets<T>(faults: &[Fault<T>], fresh: impl Fn() -> T, mut call: impl FnMut(&T) -> Status) {
-    for set in 0..1u32 << faults.len() {
-        let chosen = |number: &usize| set >> number & 1 == 1;
-        let mut lent = fresh();
-        for number in (0..faults.len()).rev().filter(chosen) {
-            faults[number].1(&mut lent);
-        }
-        let first = (0..faults.len()).find(chosen);
-        let due = first.map_or(Success, |number| faults[number].0);
-        assert_eq!(call(&lent), due, "faults {set:#b}");
-    }
 }
 
 #[test]
@@ -857,7 +680,7 @@ fn the_first_status_of_a_load_is_given() {
         (InvalidParameter, |load| load.volume.state = 1),
         (UnknownRevision, |load| {
             let at = load.image.len() - 4;
-            load.image[at] = 2;
+            load.image[at] = 3;
         }),
         (FileCorruptError, |load| load.image[40] ^= 1),
         (FileCorruptError, |load| {
@@ -873,57 +696,92 @@ fn the_first_status_of_a_load_is_given() {
         (InvalidParameter, |load| load.id = 8),
         (InvalidParameter, |load| load.id = load.volume.id),
         (DiskFull, |load| {
-            load.image = image(&body(8, &[2; 13]), 8, 8);
+            load.image = image(load.form, &body(load.form, 8, &[2; 13]), 8, 8);
         }),
     ];
-    let fresh = || Load {
-        volume: idle(1024),
-        lent: 1024,
-        image: image(&body(8, &[2; 12]), 8, 8),
-        id: 9,
-    };
     let mut run = Run::new("orders of a load");
-    try_sets(&faults, fresh, |load| {
-        let mut ring = Lent::output(&mut run.rng, load.lent);
-        run.load(&load.volume, &mut ring, &load.image, load.id).0
-    });
-    run.loads.finish(&expected::LOAD, 1 << faults.len());
+    for form in FORMS {
+        let fresh = || Load {
+            form,
+            volume: idle(1024),
+            lent: 1024,
+            image: image(form, &body(form, 8, &[2; 12]), 8, 8),
+            id: 9,
+        };
+        try_sets(&faults, fresh, |load| {
+            let mut ring = Lent::output(&mut run.rng, load.lent);
+            run.load(&load.volume, &mut ring, &load.image, load.id).0
+        });
+    }
+    run.loads.finish(&expected::LOAD, 2 << faults.len());
+}
+
+/// What a save is called with.
+struct Save {
+    journal: Journal,
+    form: u32,
+    room: usize,
+}
+
+/// A journal with id 8 that an image of records with these names was loaded to.
+fn loaded(run: &mut Run, first: u64, capacity: u64, names: &[usize]) -> Journal {
+    let mut ring = Lent::output(&mut run.rng, capacity as usize);
+    let form = run.rng.pick(&FORMS);
+    let image = image_of(form, first, names);
+    let (status, volume) = run.load(&idle(capacity), &mut ring, &image, 8);
+    assert_eq!(status, Success);
+    Journal {
+        volume,
+        ring: ring.library[..ring.length].to_vec(),
+    }
 }
 
 #[test]
 fn the_first_status_of_a_save_is_given() {
-    let faults: [Fault<(Journal, usize)>; 14] = [
-        (InvalidDeviceRequest, |save| save.0.volume.journal = 0),
-        (JournalDeleteInProgress, |save| save.0.volume.state = 2),
-        (JournalNotActive, |save| save.0.volume.state = 0),
-        (JournalNotActive, |save| save.0.volume.state = 0x101),
-        (FileCorruptError, |save| save.0.ring[120] ^= 1),
-        (FileCorruptError, |save| save.0.volume.first += 8),
-        (FileCorruptError, |save| save.0.volume.last += 8),
-        (FileCorruptError, |save| save.0.volume.last = NEGATIVE),
-        (FileCorruptError, |save| save.0.volume.capacity = 1016),
-        (FileCorruptError, |save| save.0.ring.push(0)),
+    let faults: [Fault<Save>; 15] = [
+        (InvalidDeviceRequest, |save| save.journal.volume.journal = 0),
+        (UnknownRevision, |save| save.form += 0x100),
+        (JournalDeleteInProgress, |save| {
+            save.journal.volume.state = 2
+        }),
+        (JournalNotActive, |save| save.journal.volume.state = 0),
+        (JournalNotActive, |save| save.journal.volume.state = 0x101),
+        (FileCorruptError, |save| save.journal.ring[120] ^= 1),
+        (FileCorruptError, |save| save.journal.volume.first += 8),
+        (FileCorruptError, |save| save.journal.volume.last += 8),
+        (FileCorruptError, |save| save.journal.volume.last = NEGATIVE),
+        (FileCorruptError, |save| save.journal.volume.capacity = 1016),
+        (FileCorruptError, |save| save.journal.ring.push(0)),
         // an upper byte of the oldest record's file id, of the next one's parent id
-        (NotSupported, |save| save.0.ring[23] = 1),
-        (NotSupported, |save| save.0.ring[80 + 32] = 0x80),
-        (BufferTooSmall, |save| save.1 = save.1.saturating_sub(1)),
-        (BufferTooSmall, |save| save.1 = 0),
+        (NotSupported, |save| save.journal.ring[23] = 1),
+        (NotSupported, |save| save.journal.ring[80 + 32] = 0x80),
+        (BufferTooSmall, |save| {
+            save.room = save.room.saturating_sub(1)
+        }),
+        (BufferTooSmall, |save| save.room = 0),
     ];
     let mut run = Run::new("orders of a save");
-    let mut ring = Lent::holding(&mut run.rng, &[0; 1024]);
-    let loaded = image_of(0, &[2; 12]);
-    let (status, volume) = run.load(&idle(1024), &mut ring, &loaded, 8);
-    assert_eq!(status, Success);
-    let journal = Journal {
-        volume,
-        ring: ring.library[..1024].to_vec(),
-    };
-    for room in [loaded.len(), loaded.len() + 1, 1024 + TRAILER, 70_000] {
-        let (status, saved) = run.save(&journal, room);
-        assert_eq!((status, saved.len()), (Success, loaded.len()));
+    let journal = loaded(&mut run, 0, 1024, &[2; 12]);
+    for form in FORMS {
+        let length = image_of(form, 0, &[2; 12]).len();
+        for room in [length, length + 1, 1024 + TRAILER, 70_000] {
+            let (status, saved) = run.save(&journal, form, room);
+            assert_eq!((status, saved.len()), (Success, length));
+        }
+        let fresh = || Save {
+            journal: journal.clone(),
+            form,
+            room: length,
+        };
+        // Form 2 has room for a wide id.
+        let in_form: Vec<Fault<Save>> = faults
+            .into_iter()
+            .filter(|(status, _)| form == 1 || *status != NotSupported)
+            .collect();
+        try_sets(&in_form, fresh, |save| {
+            run.save(&save.journal, save.form, save.room).0
+        });
     }
-    let fresh = || (journal.clone(), loaded.len());
-    try_sets(&faults, fresh, |(journal, room)| run.save(journal, *room).0);
     run.saves.finish(&expected::SAVE, 1 << faults.len());
 }
 
@@ -941,20 +799,23 @@ fn saves_around_every_limit() {
         (80, 65_536, vec![510; 110]),
     ];
     for (first, capacity, names) in journals {
-        let loaded = image_of(first, &names);
-        let mut ring = Lent::output(&mut run.rng, capacity as usize);
-        let (status, volume) = run.load(&idle(capacity), &mut ring, &loaded, 8);
-        assert_eq!(status, Success);
-        let ring = ring.library[..ring.length].to_vec();
-        let journal = Journal { volume, ring };
-        for room in [0, 31, loaded.len() - 1, loaded.len(), loaded.len() + 1] {
-            let (status, saved) = run.save(&journal, room);
-            let due = match room < loaded.len() {
-                true => (BufferTooSmall, Vec::new()),
-                false => (Success, image(&body(first, &names), first, 8)),
-            };
-            assert_eq!((status, saved), due, "room {room}");
+        let journal = loaded(&mut run, first, capacity, &names);
+        for form in FORMS {
+            let due = image(form, &body(form, first, &names), first, 8);
+            for room in [0, 31, due.len() - 1, due.len(), due.len() + 1] {
+                let saved = run.save(&journal, form, room);
+                let due = match room < due.len() {
+                    true => (BufferTooSmall, Vec::new()),
+                    false => (Success, due.clone()),
+                };
+                assert_eq!(saved, due, "room {room}");
+            }
+        }
+        for form in NO_FORMS {
+            let refused = (UnknownRevision, Vec::new());
+            assert_eq!(run.save(&journal, form, 70_000), refused);
         }
     }
-    run.saves.finish(&[Success, BufferTooSmall], 40);
+    run.saves
+        .finish(&[Success, BufferTooSmall, UnknownRevision], 80);
 }

@@ -6,9 +6,10 @@
 
 mod common;
 
-use common::journal::{gave, given, idle, refused, Given, Journal, CAPACITY};
-use common::{image, lay_out, plant, record_length, seal};
-use common::{Rng, ALIKE, CHANGE, EXCLUDED, GUARD, TRAILER};
+use common::images::usn_place;
+use common::journal::{gave, given, idle, moved, refused, Given, Journal, CAPACITY};
+use common::{image, lay_out, other_form, plant, record_length, seal, version_of};
+use common::{Rng, ALIKE, CHANGE, EXCLUDED, FORMS, GUARD, TRAILER};
 use lanhduxe::Status::{self, *};
 use lanhduxe::{list_reply, read_record, walk_reply};
 use lanhduxe::{Change, FileId, FileRecord, Link, Volume};
@@ -173,7 +174,9 @@ impl Journal {
         assert_eq!(posted, (FileCorruptError, 3), "{}", what());
         assert!(*self == before, "a refused post changed: {}", what());
         assert_eq!(self.read(0, !0, 3, ROOM), corrupt, "{}", what());
-        assert_eq!(self.save(ROOM), corrupt, "{}", what());
+        for form in FORMS {
+            assert_eq!(self.save(form, ROOM), corrupt, "{}", what());
+        }
     }
 
     /// Reads and saves a journal that keeps records with these names, then posts
@@ -185,8 +188,11 @@ impl Journal {
             let reply = [&last.to_le_bytes()[..], &records].concat();
             assert_eq!(self.read(0, !0, version, ROOM), gave(reply), "{}", what());
         }
-        let saved = image(&laid_out(2, first, names), first, self.volume.id);
-        assert_eq!(self.save(ROOM), gave(saved), "{}", what());
+        for form in FORMS {
+            let records = laid_out(version_of(form), first, names);
+            let saved = image(form, &records, first, self.volume.id);
+            assert_eq!(self.save(form, ROOM), gave(saved), "{}", what());
+        }
         let posted = self.clone().post(&CHANGE, b"a\0");
         assert_eq!(posted, (Success, last + 80), "{}", what());
     }
@@ -454,17 +460,23 @@ fn names_are_judged_in_an_image() {
         // The name is that of the oldest record, the next one or the newest.
         let mut names = [&b"a\0"[..]; 3];
         names[name.len() / 2 % 3] = name;
-        let bytes = image(&laid_out(2, 4096, &names), 4096, 7);
-        let lent = Amid::new(&bytes);
-        let (status, loaded) = load(lent.bytes(), 8);
-        if !good {
-            assert_eq!(status, FileCorruptError, "{name:x?}");
-            return;
-        }
+        let in_form = |form| image(form, &laid_out(version_of(form), 4096, &names), 4096, 7);
         let kept = laid_out(3, 4096, &names);
-        assert_eq!(status, Success, "{name:x?}");
-        assert_eq!(loaded.volume.last, 4096 + kept.len() as u64);
-        assert!(loaded.ring[..kept.len()] == kept, "{name:x?}");
+        for form in FORMS {
+            let bytes = in_form(form);
+            let lent = Amid::new(&bytes);
+            let (status, loaded) = load(lent.bytes(), 8);
+            let other = moved(lent.bytes(), form, ROOM);
+            if !good {
+                assert_eq!(status, FileCorruptError, "{name:x?}");
+                assert_eq!(other, refused(FileCorruptError), "{name:x?}");
+                continue;
+            }
+            assert_eq!(status, Success, "{name:x?}");
+            assert_eq!(loaded.volume.last, 4096 + kept.len() as u64);
+            assert!(loaded.ring[..kept.len()] == kept, "{name:x?}");
+            assert_eq!(other, gave(in_form(other_form(form))), "{name:x?}");
+        }
     });
     assert_eq!(tried, TRIED);
 }
@@ -476,16 +488,21 @@ fn names_are_judged_in_a_saved_image() {
         let mut journal = Journal::new(4096 + 800);
         journal.add(b"a\0");
         journal.add(&letters(length));
-        let (answer, saved) = journal.save(ROOM);
-        assert_eq!(answer.status, Success);
-        assert_eq!(load(&saved, 8).0, Success);
-        for place in places(length) {
-            let bad = EXCLUDED.map(|unit| (unit, FileCorruptError));
-            let good = [0x5C00, 0x005D, 0x0001, 0xFFFF].map(|unit| (unit, Success));
-            for (unit, status) in bad.into_iter().chain(good) {
-                let mut changed = planted(saved.clone(), 64 + 60 + place, unit);
-                seal(&mut changed);
-                assert_eq!(load(&changed, 8).0, status, "{unit:#x} at {place}");
+        for form in FORMS {
+            let (answer, saved) = journal.save(form, ROOM);
+            assert_eq!(answer.status, Success);
+            assert_eq!(load(&saved, 8).0, Success);
+            let before = record_length(version_of(form), 2) + usn_place(form) + 36;
+            for place in places(length) {
+                let bad = EXCLUDED.map(|unit| (unit, FileCorruptError));
+                let good = [0x5C00, 0x005D, 0x0001, 0xFFFF].map(|unit| (unit, Success));
+                for (unit, status) in bad.into_iter().chain(good) {
+                    let mut changed = planted(saved.clone(), before + place, unit);
+                    seal(&mut changed);
+                    assert_eq!(load(&changed, 8).0, status, "{unit:#x} at {place}");
+                    let other = moved(&changed, form, ROOM).0.status;
+                    assert_eq!(other, status, "{unit:#x} at {place}");
+                }
             }
         }
     }
@@ -493,21 +510,27 @@ fn names_are_judged_in_a_saved_image() {
 
 /// The image is judged behind its form, and ahead of the id and the room.
 #[test]
-fn a_load_gives_its_first_status() {
+fn a_load_and_a_move_give_their_first_status() {
     let long = letters(510);
     let names = [b"a\0/\0", &long[..], &long];
-    let mut bytes = image(&laid_out(2, 4096, &names), 4096, 7);
-    assert_eq!(load(&bytes, 7).0, FileCorruptError);
-    assert_eq!(load(&bytes, 8).0, FileCorruptError);
-    plant(&mut bytes, 62, 0x2F2F);
-    seal(&mut bytes);
-    assert_eq!(load(&bytes, 7).0, InvalidParameter);
-    assert_eq!(load(&bytes, 8).0, DiskFull);
-    plant(&mut bytes, 62, 0x002F);
-    seal(&mut bytes);
-    let form = bytes.len() - TRAILER + 28;
-    bytes[form] = 2;
-    assert_eq!(load(&bytes, 7).0, UnknownRevision);
+    for form in FORMS {
+        let mut bytes = image(form, &laid_out(version_of(form), 4096, &names), 4096, 7);
+        let slash = usn_place(form) + 38;
+        assert_eq!(load(&bytes, 7).0, FileCorruptError);
+        assert_eq!(load(&bytes, 8).0, FileCorruptError);
+        assert_eq!(moved(&bytes, form, 0), refused(FileCorruptError));
+        plant(&mut bytes, slash, 0x2F2F);
+        seal(&mut bytes);
+        assert_eq!(load(&bytes, 7).0, InvalidParameter);
+        assert_eq!(load(&bytes, 8).0, DiskFull);
+        assert_eq!(moved(&bytes, form, 0), refused(BufferTooSmall));
+        plant(&mut bytes, slash, 0x002F);
+        seal(&mut bytes);
+        let number = bytes.len() - TRAILER + 28;
+        bytes[number] = 3;
+        assert_eq!(load(&bytes, 7).0, UnknownRevision);
+        assert_eq!(moved(&bytes, form, 0), refused(UnknownRevision));
+    }
 }
 
 // ---- Kept records.
@@ -734,10 +757,10 @@ fn a_journal_created_anew_takes_posts_again() {
 
         assert_eq!(journal.volume.delete(7), Success);
         assert_eq!(journal.post(&CHANGE, b"a\0"), (Success, 3));
-        assert_eq!(journal.save(ROOM), refused(JournalDeleteInProgress));
+        assert_eq!(journal.save(1, ROOM), refused(JournalDeleteInProgress));
         assert_eq!(journal.volume.finish(), Success);
         assert_eq!(journal.post(&CHANGE, b"a\0"), (Success, 3));
-        assert_eq!(journal.save(ROOM), refused(JournalNotActive));
+        assert_eq!(journal.save(2, ROOM), refused(JournalNotActive));
         assert!(journal.ring == before.ring, "{}", what());
         assert_eq!(journal.volume.create(8), Success);
         journal.is_accepted(&[], &what);
@@ -771,8 +794,13 @@ fn judge_everywhere(name: &[u8], good: bool) {
     }
     let linked = read_file(name, &[link(0, name.len())]).0.status;
     assert_eq!(linked, due(FileCorruptError), "link {name:x?}");
-    let loaded = load(&image(&laid_out(2, 4096, &[name]), 4096, 7), 8).0;
-    assert_eq!(loaded, due(FileCorruptError), "image {name:x?}");
+    for form in FORMS {
+        let bytes = image(form, &laid_out(version_of(form), 4096, &[name]), 4096, 7);
+        let loaded = load(&bytes, 8).0;
+        assert_eq!(loaded, due(FileCorruptError), "image {name:x?}");
+        let moved = moved(&bytes, form, ROOM).0.status;
+        assert_eq!(moved, due(FileCorruptError), "move {name:x?}");
+    }
 }
 
 /// Of all units that there are just three are excluded, at each place of a name

@@ -1,7 +1,8 @@
 //! Readers of one journal over whole lists of calls: what they are handed, when
 //! they are told that records are gone, and that they reach the journal's end.
 //! Where a list ends with a save and the next one begins with a load, they go on
-//! from where they stand, under the new id.
+//! from where they stand, under the new id. In between the image may be moved to
+//! the other form and back.
 //!
 //! They read in both versions, and records have wide ids: in version 2 a reader
 //! comes to the first such record that it selects, and no further.
@@ -13,8 +14,9 @@
 mod common;
 
 use common::{check, expected, holds_excluded, is_wide, lay_out, record_length, selects};
+use common::{other_form, version_of, FORMS, NO_FORMS};
 use common::{Counts, Hex, ReadInput, Rng, GUARD, NEGATIVE, TRAILER};
-use lanhduxe::{Change, Status, Volume};
+use lanhduxe::{move_image, Change, Status, Volume};
 
 const TEST: &str = "readers";
 const CALLS: u64 = 300_000;
@@ -76,18 +78,24 @@ impl History {
         }
     }
 
-    /// Whether a record is kept that no image can hold.
-    fn keeps_wide(&self) -> bool {
-        self.posted[self.dropped..].iter().any(Posted::is_wide)
+    /// Whether a record is kept that an image of a form cannot hold.
+    fn keeps_too_wide(&self, form: u32) -> bool {
+        form == 1 && self.posted[self.dropped..].iter().any(Posted::is_wide)
     }
 
-    /// The image of what is kept, none of it with a wide id.
-    fn image(&self) -> Vec<u8> {
+    /// The image of what is kept, in a form. Of a wide id it has what its version
+    /// has room for.
+    fn image(&self, form: u32) -> Vec<u8> {
         let mut body = Vec::new();
         for record in &self.posted[self.dropped..] {
-            body.extend(lay_out(2, &record.change, record.usn, &record.name));
+            body.extend(lay_out(
+                version_of(form),
+                &record.change,
+                record.usn,
+                &record.name,
+            ));
         }
-        common::image(&body, self.first, self.id)
+        common::image(form, &body, self.first, self.id)
     }
 
     /// Notes a post; true if the record counts as posted.
@@ -251,6 +259,10 @@ struct Run {
     handed: u64,
     loads: u64,
     went_on: u64,
+    /// Loads of each form, moves of saved images, and moves that a wide id refused.
+    forms: [u64; 2],
+    moves: u64,
+    unmoved: u64,
     /// Reads of readers in version 2 that ended before a record with a wide id,
     /// and that were refused for one.
     stopped: u64,
@@ -323,6 +335,7 @@ impl Run {
             self.reader_read(&mut list, reader, &input, 600);
         }
         self.loads += 1;
+        self.forms[usize::from(image.ends_with(&[2, 0, 0, 0]))] += 1;
         self.went_on += list.readers.len() as u64;
         list
     }
@@ -392,15 +405,15 @@ impl Run {
         self.after(list, &before, status, "create");
     }
 
-    /// A load that has to be refused: another one would begin a new list. Of a
-    /// wide id the image has what version 2 has room for.
+    /// A load that has to be refused: another one would begin a new list.
     fn load(&mut self, list: &mut List) {
-        let mut image = list.history.image();
+        let form = self.rng.pick(&FORMS);
+        let mut image = list.history.image(form);
         let at = self.rng.below(image.len() as u64) as usize;
         match self.rng.below(4) {
             0 => image.truncate(at),
             1 => image[at] ^= 1 << self.rng.below(8),
-            2 => image.extend([2, 0, 0, 0]),
+            2 => image.extend([self.rng.pick(&[1, 2, 3]), 0, 0, 0]),
             _ => {}
         }
         let id = self.rng.pick(&[0, list.history.id]);
@@ -417,26 +430,31 @@ impl Run {
         self.after(list, &before, status, "load");
     }
 
-    /// A save: its image holds what the history keeps. It is refused while that has
-    /// a wide id.
-    fn save(&mut self, list: &List, room: usize) -> Vec<u8> {
+    /// A save in a form: its image holds what the history keeps. In form 1 it is
+    /// refused while that has a wide id.
+    fn save(&mut self, list: &List, form: u32, room: usize) -> Vec<u8> {
         let before = self.rng.bytes(room + GUARD);
         let mut output = before.clone();
         let lent = &list.ring[..list.lent];
-        let answer = list.volume.save_journal(lent, &mut output[..room]);
+        let answer = list.volume.save_journal(lent, form, &mut output[..room]);
         self.counts.add(answer.status);
-        let due = list.history.image();
-        let narrow = list.history.live && !list.history.keeps_wide();
+        let known = FORMS.contains(&form);
+        let due = list.history.image(if known { form } else { 2 });
+        let live = known && list.history.live;
+        let shown = live && !list.history.keeps_too_wide(form);
         let right = match answer.status {
-            Status::Success => narrow && output[..answer.count] == due,
-            Status::NotSupported => list.history.live && !narrow,
-            Status::BufferTooSmall => narrow && room < due.len(),
-            _ => !list.history.live,
+            Status::Success => shown && output[..answer.count] == due,
+            Status::NotSupported => live && !shown,
+            Status::BufferTooSmall => shown && room < due.len(),
+            Status::UnknownRevision => !known && list.volume.journal != 0,
+            Status::InvalidDeviceRequest => list.volume.journal == 0,
+            _ => known && !list.history.live,
         };
         let behind = output[answer.count..] == before[answer.count..];
         check(right && behind, TEST, self.index, || {
             format!(
-                "save gave {answer:?}\nbefore {:?} (lent {room})\nafter {:?}\ndue {:?}\n{:?}",
+                "save in {form} gave {answer:?}\nbefore {:?} (lent {room})\nafter {:?}\n\
+                 due {:?}\n{:?}",
                 Hex(&before),
                 Hex(&output),
                 Hex(&due),
@@ -448,16 +466,53 @@ impl Run {
         output
     }
 
-    /// A save with an output around the image's length.
+    /// A save in some form, with an output around the image's length.
     fn some_save(&mut self, list: &List) {
-        let length = list.history.image().len();
+        let known = self.rng.pick(&FORMS);
+        let form = match self.rng.below(8) {
+            0 => self.rng.pick(&NO_FORMS),
+            _ => known,
+        };
+        let length = list.history.image(known).len();
         let room = match self.rng.below(4) {
             0 => self.rng.below(length as u64) as usize,
             1 => length - 1,
             2 => length,
             _ => list.lent + TRAILER,
         };
-        self.save(list, room);
+        self.save(list, form, room);
+    }
+
+    /// Moves what was saved to the other form. It is then what a save in that form
+    /// would have written. A wide id is not moved to form 1, and the image stays.
+    fn move_saved(&mut self, saved: &History, from: u32, image: Vec<u8>) -> (u32, Vec<u8>) {
+        let to = other_form(from);
+        let due = saved.image(to);
+        let room = due.len() + self.rng.pick(&[0, 0, 1, 100]);
+        let before = self.rng.bytes(room + GUARD);
+        let mut output = before.clone();
+        let lent = image.clone();
+        let answer = move_image(&lent, from, &mut output[..room]);
+        self.counts.add(answer.status);
+        let wide = saved.keeps_too_wide(to);
+        let right = match answer.status {
+            Status::Success => !wide && output[..answer.count] == due,
+            Status::NotSupported => wide && answer.count == 0,
+            _ => false,
+        };
+        let behind = output[answer.count..] == before[answer.count..];
+        check(right && behind && lent == image, TEST, self.index, || {
+            let hex = (Hex(&image), Hex(&output), Hex(&due));
+            format!("move from {from} gave {answer:?}: image, output and due {hex:?}")
+        });
+        self.index += 1;
+        if wide {
+            self.unmoved += 1;
+            return (from, image);
+        }
+        self.moves += 1;
+        output.truncate(answer.count);
+        (to, output)
     }
 
     fn delete(&mut self, list: &mut List, right: bool) {
@@ -809,8 +864,17 @@ impl Run {
                 self.end(&list);
                 Left::Idle(list.volume, list.ring, list.lent)
             }
-            2 if list.history.live && !list.history.keeps_wide() => {
-                let image = self.save(&list, list.lent + TRAILER);
+            2 if list.history.live => {
+                let form = match list.history.keeps_too_wide(1) {
+                    true => 2,
+                    false => self.rng.pick(&FORMS),
+                };
+                let image = self.save(&list, form, list.lent + TRAILER);
+                let mut moved = (form, image);
+                for _ in 0..self.rng.below(4) {
+                    moved = self.move_saved(&list.history, moved.0, moved.1);
+                }
+                let image = moved.1;
                 let readers = std::mem::take(&mut list.readers);
                 self.end(&list);
                 Left::Saved(image, list.history, readers)
@@ -869,6 +933,9 @@ fn readers_are_handed_what_was_posted() {
         handed: 0,
         loads: 0,
         went_on: 0,
+        forms: [0; 2],
+        moves: 0,
+        unmoved: 0,
         stopped: 0,
         refused: 0,
         past_wide: 0,
@@ -905,6 +972,13 @@ fn readers_are_handed_what_was_posted() {
     );
     assert!(run.handed > 50_000 && run.brought > 1000 && run.told > 1000);
     assert!(run.loads > 50 && run.went_on > 100);
+    println!(
+        "{TEST}: {:?} images of each form loaded; {} moves between save and load, {} refused for a \
+         wide id",
+        run.forms, run.moves, run.unmoved
+    );
+    assert!(run.forms.iter().all(|loads| *loads > 50), "{:?}", run.forms);
+    assert!(run.moves > 50 && run.unmoved > 20);
     println!(
         "{TEST}: in version 2 {} replies ended before a wide id and {} reads were refused for one; \
          {} readers were brought past one, and {} of the reads that count were in version 2",

@@ -12,7 +12,7 @@
 mod common;
 
 use common::{check, expected, image, lay_out, model_change, model_volume};
-use common::{Counts, Rng, NEGATIVE};
+use common::{version_of, Counts, Rng, FORMS, NEGATIVE};
 use core::ffi::c_void;
 use lanhduxe::Status::{self, *};
 use lanhduxe::{Change, FileId, Volume};
@@ -359,28 +359,36 @@ fn post_stores_first_and_last_or_nothing() {
     });
 }
 
-/// Images to load: one that has room, an empty one, one that spans too much, one
-/// of another form, and three that are none. They are never given back.
-fn images() -> [&'static [u8]; 7] {
+/// Images to load, in both forms: one that has room, an empty one, one that spans
+/// too much, one of a form that is not known, and four that are none. They are
+/// never given back.
+fn images() -> Vec<&'static [u8]> {
     let change = Change {
         reason: 1,
         ..Change::default()
     };
-    let body = |count: u64| -> Vec<u8> {
-        (1..=count)
-            .flat_map(|number| lay_out(2, &change, 80 * number, b"a\0"))
-            .collect()
-    };
-    let right = image(&body(12), 0, 5);
-    let mut other = right.clone();
-    other[right.len() - 4] = 2;
-    let mut changed = right.clone();
-    changed[8] ^= 1;
-    let short = right[..31].to_vec();
-    let long = image(&body(13), 0, 5);
-    let excluded = image(&lay_out(2, &change, 80, b"a\0\\\0"), 0, 5);
-    let empty = image(&[], 1 << 40, 5);
-    [right, empty, long, other, changed, short, excluded].map(|image| &*image.leak())
+    let mut images = Vec::new();
+    for form in FORMS {
+        let version = version_of(form);
+        let body = |count: u64| -> Vec<u8> {
+            (1..=count)
+                .flat_map(|number| lay_out(version, &change, 80 * number, b"a\0"))
+                .collect()
+        };
+        let right = image(form, &body(12), 0, 5);
+        let mut unknown = right.clone();
+        unknown[right.len() - 4] = 3;
+        let mut changed = right.clone();
+        changed[8] ^= 1;
+        let short = right[..31].to_vec();
+        let long = image(form, &body(13), 0, 5);
+        let excluded = lay_out(version, &change, 80, b"a\0\\\0");
+        let excluded = image(form, &excluded, 0, 5);
+        let empty = image(form, &[], 1 << 40, 5);
+        let other = image(3 - form, &body(12), 0, 5);
+        images.extend([right, empty, long, unknown, changed, short, excluded, other]);
+    }
+    images.into_iter().map(|image| &*image.leak()).collect()
 }
 
 #[test]
@@ -388,7 +396,7 @@ fn load_stores_state_id_first_and_last_or_nothing() {
     let images = images();
     try_calls("stores of load", &expected::LOAD, |rng| {
         let image = match rng.below(2) {
-            0 => images[0],
+            0 => rng.pick(&[images[0], images[images.len() / 2]]),
             _ => rng.pick(&images),
         };
         Call::Load(image, rng.pick(&[0, 5, 7, 8, 9, 10]))

@@ -20,7 +20,7 @@ mod record;
 pub mod status;
 
 pub use files::{get_reparse_point, query_file_regions, read_file, File, Link};
-pub use image::{load_journal, save_journal};
+pub use image::{load_journal, move_image, save_journal};
 pub use journal::{create, delete, finish, post, read_journal};
 pub use listing::{list_reply, walk_reply};
 pub use record::{read_record, Change, Record};

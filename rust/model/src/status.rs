@@ -11,7 +11,7 @@ pub const INVALID_PARAMETER: u32 = 0xC000_000D;
 pub const INVALID_DEVICE_REQUEST: u32 = 0xC000_0010;
 /// A buffer is too short.
 pub const BUFFER_TOO_SMALL: u32 = 0xC000_0023;
-/// The image has a form number that is not known.
+/// A form number is not known, or the image does not have the one asked for.
 pub const UNKNOWN_REVISION: u32 = 0xC000_0058;
 /// No position is left for the record, or the ring has no room for the image's records.
 pub const DISK_FULL: u32 = 0xC000_007F;

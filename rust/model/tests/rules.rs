@@ -720,12 +720,50 @@ const ONE_KEPT: [u8; 80] = [
     0x61, 0x00, 0x62, 0x00, // name
 ];
 
+/// The image of the same journal in form 2. The words that differ from those of
+/// `ONE_IMAGE` are larger by 0x10, 1, 0x10_0000, 0x10 and 1.
+const ONE_IMAGE_2: [u8; 112] = [
+    0x50, 0x00, 0x00, 0x00, // RecordLength
+    0x03, 0x00, 0x00, 0x00, // version 3.0
+    0x01, 0x02, 0x03, 0x04, 0x05, 0x06, 0x07, 0x08, // file id
+    0x00, 0x00, 0x00, 0x00, 0x00, 0x00, 0x00, 0x00, // its upper half
+    0x11, 0x12, 0x13, 0x14, 0x15, 0x16, 0x17, 0x18, // parent id
+    0x00, 0x00, 0x00, 0x00, 0x00, 0x00, 0x00, 0x00, // its upper half
+    0x50, 0x10, 0x00, 0x00, 0x00, 0x00, 0x00, 0x00, // Usn: 4,096 + 80
+    0xF0, 0xF1, 0xF2, 0xF3, 0xF4, 0xF5, 0xF6, 0xF7, // TimeStamp
+    0x00, 0x01, 0x00, 0x80, // Reason
+    0x21, 0x22, 0x23, 0x24, // SourceInfo
+    0x31, 0x32, 0x33, 0x34, // SecurityId
+    0x20, 0x00, 0x00, 0x00, // attributes
+    0x04, 0x00, 0x4C, 0x00, // FileNameLength, FileNameOffset
+    0x61, 0x00, 0x62, 0x00, // name
+    0x00, 0x00, 0x00, 0x00, // where a record's length would be
+    0x50, 0x00, 0x00, 0x00, // body bytes
+    0x00, 0x10, 0x00, 0x00, 0x00, 0x00, 0x00, 0x00, // first position
+    0xC1, 0xC2, 0xC3, 0xC4, 0xC5, 0xC6, 0xC7, 0xC8, // journal id
+    0x62, 0x18, 0xAE, 0x8A, // sum
+    0x02, 0x00, 0x00, 0x00, // form number
+];
+
+/// The image of an empty journal in form 2.
+const EMPTY_IMAGE_2: [u8; 32] = [
+    0x00, 0x00, 0x00, 0x00, // where a record's length would be
+    0x00, 0x00, 0x00, 0x00, // body bytes
+    0x00, 0x10, 0x00, 0x00, 0x00, 0x00, 0x00, 0x00, // first position
+    0x07, 0x00, 0x00, 0x00, 0x00, 0x00, 0x00, 0x00, // journal id
+    0x09, 0x10, 0x00, 0x00, // sum: 0x1000 + 7 + 2
+    0x02, 0x00, 0x00, 0x00, // form number
+];
+
+/// Numbers of no form.
+const NO_FORMS: [u32; 8] = [0, 3, 4, 0x101, 0x102, 0x0100_0000, 0x0200_0000, u32::MAX];
+
 /// The journal id in `ONE_IMAGE`.
 const ONE_ID: u64 = 0xC8C7_C6C5_C4C3_C2C1;
 
-/// Volume, ring and image of the two journals. With a capacity of 4,096 they
-/// begin at the ring's front.
-fn literal_journals() -> [(Volume, Vec<u8>, &'static [u8]); 2] {
+/// Volume, ring and images in both forms of the two journals. With a capacity of
+/// 4,096 they begin at the ring's front.
+fn literal_journals() -> [(Volume, Vec<u8>, [&'static [u8]; 2]); 2] {
     let empty = Volume {
         state: 1,
         id: 7,
@@ -741,7 +779,10 @@ fn literal_journals() -> [(Volume, Vec<u8>, &'static [u8]); 2] {
     let mut ring = vec![0xAA; 4096];
     let unused = ring.clone();
     ring[..80].copy_from_slice(&ONE_KEPT);
-    [(empty, unused, &EMPTY_IMAGE), (one, ring, &ONE_IMAGE)]
+    [
+        (empty, unused, [&EMPTY_IMAGE, &EMPTY_IMAGE_2]),
+        (one, ring, [&ONE_IMAGE, &ONE_IMAGE_2]),
+    ]
 }
 
 /// Body and trailer joined, with the sum over all words but its own.
@@ -769,14 +810,33 @@ fn resealed(mut image: Vec<u8>) -> Vec<u8> {
 }
 
 /// An image of records with those names, right in everything but the names.
-fn image_of(first: u64, id: u64, names: &[&[u8]]) -> Vec<u8> {
+fn image_of(form: u32, first: u64, id: u64, names: &[&[u8]]) -> Vec<u8> {
     let mut body = vec![];
     let mut usn = first;
     for name in names {
         usn = usn.wrapping_add(plain(3, &change(1), 0, name).len() as u64);
-        body.extend(plain(2, &change(1), usn, name));
+        body.extend(plain(version_of(form), &change(1), usn, name));
     }
-    sealed(&body, first, id, 1)
+    sealed(&body, first, id, form)
+}
+
+/// The version of the records in an image of a form.
+fn version_of(form: u32) -> u16 {
+    form as u16 + 1
+}
+
+/// The last word of an image: its form, where there is one.
+fn last_word(image: &[u8]) -> u32 {
+    u32::from_le_bytes(image[image.len() - 4..].try_into().unwrap())
+}
+
+/// The status of loading an image that is cut short or changed in a word.
+fn refused(image: &[u8]) -> u32 {
+    if image.len() >= 32 && !matches!(last_word(image), 1 | 2) {
+        UNKNOWN_REVISION
+    } else {
+        FILE_CORRUPT_ERROR
+    }
 }
 
 /// Loads under `id` and checks that a refusal changes nothing.
@@ -794,10 +854,21 @@ fn load(image: &[u8]) -> u32 {
     load_under(&volume(65_536), &[0xAA; 65_536], image, 99).0
 }
 
-/// Saves into a buffer of `size` bytes and checks that the rest is untouched.
-fn save(v: &Volume, ring: &[u8], size: usize) -> (u32, Vec<u8>) {
+/// Saves in a form into a buffer of `size` bytes and checks that the rest is
+/// untouched.
+fn save(v: &Volume, ring: &[u8], form: u32, size: usize) -> (u32, Vec<u8>) {
     let mut output = vec![0xCC; size];
-    let (status, count) = save_journal(v, ring, &mut output);
+    let (status, count) = save_journal(v, ring, form, &mut output);
+    assert!(output[count..].iter().all(|&b| b == 0xCC));
+    output.truncate(count);
+    (status, output)
+}
+
+/// Moves from a form into a buffer of `size` bytes and checks that the rest is
+/// untouched.
+fn move_from(image: &[u8], from: u32, size: usize) -> (u32, Vec<u8>) {
+    let mut output = vec![0xCC; size];
+    let (status, count) = move_image(image, from, &mut output);
     assert!(output[count..].iter().all(|&b| b == 0xCC));
     output.truncate(count);
     (status, output)
@@ -806,11 +877,14 @@ fn save(v: &Volume, ring: &[u8], size: usize) -> (u32, Vec<u8>) {
 #[test]
 fn image_bytes() {
     assert_eq!(UNKNOWN_REVISION, 0xC000_0058);
-    for (v, ring, image) in literal_journals() {
-        assert_eq!(save(&v, &ring, image.len()), (SUCCESS, image.to_vec()));
-        assert_eq!(save(&v, &ring, 999), (SUCCESS, image.to_vec()));
-        let short = save(&v, &ring, image.len() - 1);
-        assert_eq!(short, (BUFFER_TOO_SMALL, vec![]));
+    for (v, ring, images) in literal_journals() {
+        for (form, image) in (1..).zip(images) {
+            let saved = save(&v, &ring, form, image.len());
+            assert_eq!(saved, (SUCCESS, image.to_vec()));
+            assert_eq!(save(&v, &ring, form, 999), saved);
+            let short = save(&v, &ring, form, image.len() - 1);
+            assert_eq!(short, (BUFFER_TOO_SMALL, vec![]));
+        }
 
         // Only state, id, first and last of the volume record change; what they
         // were does not matter, but for the state and the id.
@@ -834,8 +908,10 @@ fn image_bytes() {
                 last: v.last,
                 ..idle
             };
-            let got = load_under(&idle, &[0xAA; 4096], image, 99);
-            assert_eq!(got, (SUCCESS, loaded, ring.clone()));
+            for image in images {
+                let got = load_under(&idle, &[0xAA; 4096], image, 99);
+                assert_eq!(got, (SUCCESS, loaded, ring.clone()));
+            }
         }
     }
 }
@@ -844,20 +920,48 @@ fn image_bytes() {
 #[test]
 fn image_over_the_end() {
     let idle = volume(4152);
-    let mut ring = vec![0xAA; 4152];
-    let (status, v, kept) = load_under(&idle, &ring, &ONE_IMAGE, 1);
+    let lent = vec![0xAA; 4152];
+    let mut ring = lent.clone();
     ring[4096..].copy_from_slice(&ONE_KEPT[..56]);
     ring[..24].copy_from_slice(&ONE_KEPT[56..]);
-    assert_eq!((status, v.first, v.last), (SUCCESS, 4096, 4176));
-    assert_eq!(kept, ring);
-    let back = Volume { id: ONE_ID, ..v };
-    assert_eq!(save(&back, &kept, 96), (SUCCESS, ONE_IMAGE.to_vec()));
+    for image in [&ONE_IMAGE[..], &ONE_IMAGE_2] {
+        let (status, v, kept) = load_under(&idle, &lent, image, 1);
+        assert_eq!((status, v.first, v.last), (SUCCESS, 4096, 4176));
+        assert_eq!(kept, ring);
+        let back = Volume { id: ONE_ID, ..v };
+        let saved = save(&back, &kept, 1, 96);
+        assert_eq!(saved, (SUCCESS, ONE_IMAGE.to_vec()));
+        let saved = save(&back, &kept, 2, 112);
+        assert_eq!(saved, (SUCCESS, ONE_IMAGE_2.to_vec()));
+    }
 }
 
 #[test]
 fn save_order() {
     let [_, (v, ring, _)] = literal_journals();
-    let status = |v: Volume, ring: &[u8], size| save(&v, ring, size).0;
+    for form in NO_FORMS {
+        let status = |v: Volume, ring: &[u8], size| save(&v, ring, form, size).0;
+        let wrong = Volume {
+            journal: 0,
+            state: 2,
+            ..v
+        };
+        assert_eq!(status(wrong, &[], 0), INVALID_DEVICE_REQUEST);
+        for state in [0, 1, 2] {
+            let wrong = Volume { state, ..v };
+            assert_eq!(status(wrong, &[], 0), UNKNOWN_REVISION);
+            assert_eq!(status(wrong, &ring, 999), UNKNOWN_REVISION);
+        }
+    }
+    for (form, size) in [(1, 96), (2, 112)] {
+        save_order_in(form, size, v, &ring);
+    }
+}
+
+/// The statuses behind that of the form, for a journal whose image has `length`
+/// bytes.
+fn save_order_in(form: u32, length: usize, v: Volume, ring: &[u8]) {
+    let status = |v: Volume, ring: &[u8], size| save(&v, ring, form, size).0;
     let wrong = Volume {
         journal: 0,
         state: 2,
@@ -888,23 +992,30 @@ fn save_order() {
             capacity,
             ..v
         };
-        assert_eq!(status(wrong, &ring, 0), FILE_CORRUPT_ERROR);
-        assert_eq!(status(wrong, &ring, 96), FILE_CORRUPT_ERROR);
+        assert_eq!(status(wrong, ring, 0), FILE_CORRUPT_ERROR);
+        assert_eq!(status(wrong, ring, length), FILE_CORRUPT_ERROR);
     }
-    let mut damaged = ring.clone();
+    let mut damaged = ring.to_vec();
     damaged[56..60].fill(0);
     assert_eq!(status(v, &damaged, 0), FILE_CORRUPT_ERROR);
-    for size in 0..96 {
-        assert_eq!(status(v, &ring, size), BUFFER_TOO_SMALL);
+    for size in 0..length {
+        assert_eq!(status(v, ring, size), BUFFER_TOO_SMALL);
     }
-    assert_eq!(status(v, &ring, 96), SUCCESS);
+    assert_eq!(status(v, ring, length), SUCCESS);
     // A journal's own id may be any number, 0 too.
-    let (_, image) = save(&Volume { id: 0, ..v }, &ring, 96);
-    assert_eq!((&image[80..88], load(&image)), (&[0; 8][..], SUCCESS));
+    let (_, image) = save(&Volume { id: 0, ..v }, ring, form, length);
+    let id = length - 16;
+    assert_eq!((&image[id..id + 8], load(&image)), (&[0; 8][..], SUCCESS));
 }
 
 #[test]
 fn load_order() {
+    for form in [1, 2] {
+        load_order_in(form);
+    }
+}
+
+fn load_order_in(form: u32) {
     let ring = [0xAA; 1024];
     let idle = Volume {
         id: 6,
@@ -915,10 +1026,10 @@ fn load_order() {
     // Eleven records of 80 and one of 152 span 1,032.
     let mut names = vec![&b"a\0b\0"[..]; 11];
     names.push(&[1; 76]);
-    let long = image_of(4096, 7, &names);
-    assert_eq!(long.len(), 11 * 64 + 136 + 32);
+    let long = image_of(form, 4096, 7, &names);
+    assert_eq!(long.len(), [872, 1064][form as usize - 1]);
     let mut other = long.clone();
-    other[long.len() - 4] = 2;
+    other[long.len() - 4] = 3;
     let mut damaged = long.clone();
     damaged[0] ^= 1;
 
@@ -973,14 +1084,12 @@ fn load_order() {
     assert_eq!(status(wider, &[0xAA; 1032], &long, 99), SUCCESS);
 
     // The image's own id may be the last one used.
+    let empty = image_of(form, 4096, 7, &[]);
     let same = Volume { id: 7, ..idle };
-    assert_eq!(status(same, &ring, &EMPTY_IMAGE, 7), INVALID_PARAMETER);
-    assert_eq!(status(same, &ring, &EMPTY_IMAGE, 6), SUCCESS);
+    assert_eq!(status(same, &ring, &empty, 7), INVALID_PARAMETER);
+    assert_eq!(status(same, &ring, &empty, 6), SUCCESS);
     // On a volume that had no journal yet, 0 is refused all the same.
-    assert_eq!(
-        status(volume(1024), &ring, &EMPTY_IMAGE, 0),
-        INVALID_PARAMETER
-    );
+    assert_eq!(status(volume(1024), &ring, &empty, 0), INVALID_PARAMETER);
 }
 
 /// Up to 31 bytes there is no form number to know.
@@ -989,70 +1098,89 @@ fn image_sizes() {
     for size in 0..32 {
         assert_eq!(load(&vec![0; size]), FILE_CORRUPT_ERROR);
         assert_eq!(load(&vec![0xFF; size]), FILE_CORRUPT_ERROR);
-        let tail = &EMPTY_IMAGE[32 - size..];
-        assert_eq!(load(tail), FILE_CORRUPT_ERROR);
+        for image in [EMPTY_IMAGE, EMPTY_IMAGE_2] {
+            assert_eq!(load(&image[32 - size..]), FILE_CORRUPT_ERROR);
+        }
     }
     assert_eq!(load(&[0; 32]), UNKNOWN_REVISION);
-    assert_eq!(load(&EMPTY_IMAGE), SUCCESS);
-    for more in 1..=40 {
-        let front = [&vec![0; more][..], &EMPTY_IMAGE].concat();
-        assert_eq!(load(&front), FILE_CORRUPT_ERROR);
-        // The number is looked for in the last four bytes, wherever they are.
-        let behind = [&EMPTY_IMAGE[..], &vec![0; more]].concat();
-        assert_eq!(load(&behind), UNKNOWN_REVISION);
+    for image in [EMPTY_IMAGE, EMPTY_IMAGE_2] {
+        assert_eq!(load(&image), SUCCESS);
+        for more in 1..=40 {
+            let front = [&vec![0; more][..], &image].concat();
+            assert_eq!(load(&front), FILE_CORRUPT_ERROR);
+            // The number is looked for in the last four bytes, wherever they are.
+            let behind = [&image[..], &vec![0; more]].concat();
+            assert_eq!(load(&behind), UNKNOWN_REVISION);
+        }
     }
-    for (form, status) in [
-        (0, UNKNOWN_REVISION),
-        (1, SUCCESS),
-        (2, UNKNOWN_REVISION),
-        (0x0100_0001, UNKNOWN_REVISION),
-        (u32::MAX, UNKNOWN_REVISION),
-    ] {
-        assert_eq!(load(&sealed(&[], 4096, 7, form)), status);
+    for form in NO_FORMS {
+        assert_eq!(load(&sealed(&[], 4096, 7, form)), UNKNOWN_REVISION);
     }
 }
 
 #[test]
 fn image_cuts() {
-    let several = image_of(88, 5, &[b"a\0", &[1; 510], b"a\0b\0", &[1, 0].repeat(32)]);
-    for image in [&EMPTY_IMAGE[..], &ONE_IMAGE, &several] {
+    let names = [b"a\0", &[1; 510][..], b"a\0b\0", &[1, 0].repeat(32)];
+    let several = [1, 2].map(|form| image_of(form, 88, 5, &names));
+    let [one, two] = &several;
+    for image in [
+        &EMPTY_IMAGE[..],
+        &EMPTY_IMAGE_2,
+        &ONE_IMAGE,
+        &ONE_IMAGE_2,
+        one,
+        two,
+    ] {
         assert_eq!(load(image), SUCCESS);
+        let form = last_word(image);
         for cut in 0..image.len() {
-            let status = load(&image[..cut]);
-            let form = cut >= 32 && image[cut - 4..cut] != [1, 0, 0, 0];
-            let expected = if form {
-                UNKNOWN_REVISION
-            } else {
-                FILE_CORRUPT_ERROR
-            };
-            assert_eq!(status, expected, "{cut}");
+            let left = &image[..cut];
+            assert_eq!(load(left), refused(left), "{cut}");
+            let moved = move_from(left, form, 4000);
+            assert_eq!(moved.1, [], "{cut}");
+            assert_ne!(moved.0, SUCCESS, "{cut}");
         }
     }
     // A record whose fields hold a trailer, from the Usn to the attributes: cut
     // behind it, the body's length, the sum and the form number are right. The
     // body is not a whole record, though.
-    let usn = 24 << 32; // a zero word, and a body of 24 bytes
-    let mut c = Change {
-        time: 4096,
-        attributes: 1,
-        ..change(7)
-    };
-    let whole = |c: &Change| sealed(&plain(2, c, usn, b"a\0"), usn - 80, 8, 1);
-    let cut = resealed(whole(&c)[..56].to_vec());
-    c.security = u32::from_le_bytes(cut[48..52].try_into().unwrap());
-    let whole = whole(&c);
-    assert_eq!((load(&whole), whole.starts_with(&cut)), (SUCCESS, true));
-    assert_eq!(load(&cut), FILE_CORRUPT_ERROR);
+    for (form, begin) in [(1, 24), (2, 40)] {
+        let usn = (begin as u64) << 32; // a zero word, and the body's bytes
+        let mut c = Change {
+            time: 4096,
+            attributes: form,
+            ..change(7)
+        };
+        let record = |c: &Change| plain(version_of(form), c, usn, b"a\0");
+        let whole = |c: &Change| sealed(&record(c), usn - 80, 8, form);
+        let cut = resealed(whole(&c)[..begin + 32].to_vec());
+        let sum = cut[begin + 24..begin + 28].try_into().unwrap();
+        c.security = u32::from_le_bytes(sum);
+        let whole = whole(&c);
+        assert_eq!((load(&whole), whole.starts_with(&cut)), (SUCCESS, true));
+        assert_eq!(load(&cut), FILE_CORRUPT_ERROR);
+        assert_eq!(move_from(&cut, form, 999), (FILE_CORRUPT_ERROR, vec![]));
+    }
 }
 
 #[test]
 fn image_words() {
-    let several = image_of(88, 5, &[b"a\0", &[1; 510], b"a\0b\0"]);
+    let names = [b"a\0", &[1; 510][..], b"a\0b\0"];
+    let several = [1, 2].map(|form| image_of(form, 88, 5, &names));
+    let [one, two] = &several;
     let mut random = Random(3);
-    for image in [&EMPTY_IMAGE[..], &ONE_IMAGE, &several] {
+    for image in [
+        &EMPTY_IMAGE[..],
+        &EMPTY_IMAGE_2,
+        &ONE_IMAGE,
+        &ONE_IMAGE_2,
+        one,
+        two,
+    ] {
+        let form = last_word(image);
         for at in (0..image.len()).step_by(4) {
             let old = u32::from_le_bytes(image[at..at + 4].try_into().unwrap());
-            let mut words = vec![0, 1, 2, u32::MAX, !old, old.wrapping_add(1)];
+            let mut words = vec![0, 1, 2, 3, u32::MAX, !old, old.wrapping_add(1)];
             words.extend([old.wrapping_sub(1), old.wrapping_mul(2)]);
             words.extend((0..32).map(|bit| old ^ 1 << bit));
             words.extend((0..20).map(|_| (random.below(1 << 31) * 2 + random.below(2)) as u32));
@@ -1060,12 +1188,12 @@ fn image_words() {
             for word in words {
                 let mut image = image.to_vec();
                 image[at..at + 4].copy_from_slice(&word.to_le_bytes());
-                let expected = if at + 4 == image.len() {
-                    UNKNOWN_REVISION
-                } else {
-                    FILE_CORRUPT_ERROR
+                assert_eq!(load(&image), refused(&image), "{at} {word}");
+                let due = match last_word(&image) == form {
+                    true => FILE_CORRUPT_ERROR,
+                    false => UNKNOWN_REVISION,
                 };
-                assert_eq!(load(&image), expected, "{at} {word}");
+                assert_eq!(move_from(&image, form, 999), (due, vec![]), "{at} {word}");
             }
         }
     }
@@ -1074,85 +1202,111 @@ fn image_words() {
 /// Images whose sum is right and something else is not.
 #[test]
 fn image_faults() {
+    image_faults_in(1, &EMPTY_IMAGE, &ONE_IMAGE);
+    image_faults_in(2, &EMPTY_IMAGE_2, &ONE_IMAGE_2);
+}
+
+/// A load and a move of an image both give that status, or else succeed.
+fn judge(image: &[u8], status: u32, what: usize) {
+    assert_eq!(load(image), status, "{what}");
+    assert_eq!(
+        move_from(image, last_word(image), 70_000).0,
+        status,
+        "{what}"
+    );
+}
+
+fn image_faults_in(form: u32, empty: &[u8], one: &[u8]) {
     // Bytes of the record: a changed bit matters everywhere but in fields that
     // may hold any value (ids, time, source, security, name) or any value but 0
-    // (Reason, attributes).
-    for at in 0..64 {
-        let mut image = ONE_IMAGE.to_vec();
+    // (Reason, attributes). A wide id is loaded, and not moved down.
+    let body = one.len() - 32;
+    let usn = body - 40;
+    let (time, name) = (usn + 8, body - 4);
+    for at in 0..body {
+        let mut image = one.to_vec();
         image[at] ^= 0x40;
-        let free = matches!(at, 8..=23 | 32..=55 | 60..=63);
+        let image = resealed(image);
+        let free = (8..usn).contains(&at) || (time..name - 4).contains(&at) || at >= name;
+        let wide = form == 2 && ((16..24).contains(&at) || (32..40).contains(&at));
         let status = if free { SUCCESS } else { FILE_CORRUPT_ERROR };
-        assert_eq!(load(&resealed(image)), status, "{at}");
+        assert_eq!(load(&image), status, "{at}");
+        let status = if wide { NOT_SUPPORTED } else { status };
+        assert_eq!(move_from(&image, form, 999).0, status, "{at}");
     }
-    for field in [40, 52] {
-        let mut image = ONE_IMAGE.to_vec();
+    // Reason and attributes.
+    for field in [usn + 16, usn + 28] {
+        let mut image = one.to_vec();
         image[field..field + 4].fill(0);
-        assert_eq!(load(&resealed(image)), FILE_CORRUPT_ERROR);
+        judge(&resealed(image), FILE_CORRUPT_ERROR, field);
     }
     // Padding.
-    let mut image = image_of(8, 1, &[b"a\0"]);
-    assert_eq!((image.len(), load(&image)), (96, SUCCESS));
-    for at in [62, 63] {
+    let mut image = image_of(form, 8, 1, &[b"a\0"]);
+    assert_eq!((image.len(), load(&image)), (body + 32, SUCCESS));
+    for at in [body - 2, body - 1] {
         image[at] = 1;
-        assert_eq!(load(&resealed(image.clone())), FILE_CORRUPT_ERROR);
+        judge(&resealed(image.clone()), FILE_CORRUPT_ERROR, at);
         image[at] = 0;
     }
     // The zero word and the body's length.
-    for image in [&EMPTY_IMAGE[..], &ONE_IMAGE] {
+    for image in [empty, one] {
         let trailer = image.len() - 32;
         for at in trailer..trailer + 8 {
             for bit in 0..8 {
                 let mut image = image.to_vec();
                 image[at] ^= 1 << bit;
-                assert_eq!(load(&resealed(image)), FILE_CORRUPT_ERROR);
+                judge(&resealed(image), FILE_CORRUPT_ERROR, at);
             }
         }
         // Any id.
         for at in trailer + 16..trailer + 24 {
             let mut image = image.to_vec();
             image[at] ^= 0x80;
-            assert_eq!(load(&resealed(image)), SUCCESS);
+            judge(&resealed(image), SUCCESS, at);
         }
     }
     // The record is short of its last bytes.
-    for size in (4..64).step_by(4) {
-        let image = sealed(&ONE_IMAGE[..size], 4096, 7, 1);
-        assert_eq!(load(&image), FILE_CORRUPT_ERROR);
+    for size in (4..body).step_by(4) {
+        let image = sealed(&one[..size], 4096, 7, form);
+        judge(&image, FILE_CORRUPT_ERROR, size);
     }
     // Zeroes between record and trailer are no record.
     for zeroes in [4, 8, 64] {
-        let body = [&ONE_IMAGE[..64], &vec![0; zeroes]].concat();
-        assert_eq!(load(&sealed(&body, 4096, 7, 1)), FILE_CORRUPT_ERROR);
+        let body = [&one[..body], &vec![0; zeroes]].concat();
+        judge(&sealed(&body, 4096, 7, form), FILE_CORRUPT_ERROR, zeroes);
     }
 }
 
 #[test]
 fn image_sums() {
-    // Words other than the sum that add up to 2^32: a sum over itself, too,
-    // would agree with every number here.
-    let image = sealed(&[], 4096, 0xFFFF_EFFF, 1);
-    assert_eq!((&image[24..28], load(&image)), (&[0; 4][..], SUCCESS));
-    for sum in [1u32, 2, 4096, u32::MAX] {
-        let mut image = image.clone();
-        image[24..28].copy_from_slice(&sum.to_le_bytes());
-        assert_eq!(load(&image), FILE_CORRUPT_ERROR);
-    }
-    // Without the form number; without the trailer; twice; in opposite order.
-    let whole = u32::from_le_bytes(ONE_IMAGE[88..92].try_into().unwrap());
-    let body = ONE_IMAGE[..64].chunks(4).fold(0u32, |sum, word| {
-        sum.wrapping_add(u32::from_le_bytes(word.try_into().unwrap()))
-    });
-    for sum in [
-        whole - 1,
-        body,
-        whole.wrapping_mul(2),
-        whole.swap_bytes(),
-        whole.wrapping_neg(),
-        0,
-    ] {
-        let mut image = ONE_IMAGE;
-        image[88..92].copy_from_slice(&sum.to_le_bytes());
-        assert_eq!(load(&image), FILE_CORRUPT_ERROR);
+    for (form, one) in [(1, &ONE_IMAGE[..]), (2, &ONE_IMAGE_2)] {
+        // Words other than the sum that add up to 2^32: a sum over itself, too,
+        // would agree with every number here.
+        let image = sealed(&[], 4096, 0xFFFF_F000 - u64::from(form), form);
+        assert_eq!((&image[24..28], load(&image)), (&[0; 4][..], SUCCESS));
+        for sum in [1u32, 2, 4096, u32::MAX] {
+            let mut image = image.clone();
+            image[24..28].copy_from_slice(&sum.to_le_bytes());
+            judge(&image, FILE_CORRUPT_ERROR, sum as usize);
+        }
+        // Without the form number; without the trailer; twice; in opposite order.
+        let own = one.len() - 8;
+        let whole = u32::from_le_bytes(one[own..own + 4].try_into().unwrap());
+        let body = one[..own - 24].chunks(4).fold(0u32, |sum, word| {
+            sum.wrapping_add(u32::from_le_bytes(word.try_into().unwrap()))
+        });
+        for sum in [
+            whole - form,
+            body,
+            whole.wrapping_mul(2),
+            whole.swap_bytes(),
+            whole.wrapping_neg(),
+            0,
+        ] {
+            let mut image = one.to_vec();
+            image[own..own + 4].copy_from_slice(&sum.to_le_bytes());
+            judge(&image, FILE_CORRUPT_ERROR, sum as usize);
+        }
     }
 }
 
@@ -1172,31 +1326,51 @@ fn image_names_and_versions() {
         (512, FILE_CORRUPT_ERROR),
     ] {
         let name = vec![0x61; length];
-        assert_eq!(load(&image_of(0, 1, &[&name])), status, "{length}");
-        let behind = image_of(0, 1, &[b"a\0", &name, b"b\0"]);
-        assert_eq!(load(&behind), status, "{length}");
+        for form in [1, 2] {
+            judge(&image_of(form, 0, 1, &[&name]), status, length);
+            let behind = image_of(form, 0, 1, &[b"a\0", &name, b"b\0"]);
+            judge(&behind, status, length);
+        }
     }
-    // Records in V3 form, under this form's number and under the next.
-    // The second Usn is where a record 16 bytes longer than stored would end.
-    for usn in [80, 96] {
-        let body = plain(3, &change(1), usn, b"a\0");
-        assert_eq!(load(&sealed(&body, 0, 1, 1)), FILE_CORRUPT_ERROR);
-        assert_eq!(load(&sealed(&body, 0, 1, 2)), UNKNOWN_REVISION);
+    // Records in the version of the other form, alone and in either place. The
+    // second Usn is where a record 16 bytes longer than stored would end.
+    for form in [1, 2] {
+        let (own, other) = (version_of(form), version_of(3 - form));
+        for usn in [80, 96] {
+            let body = plain(other, &change(1), usn, b"a\0");
+            judge(&sealed(&body, 0, 1, form), FILE_CORRUPT_ERROR, usn as usize);
+        }
+        for versions in [[own, other], [other, own]] {
+            let [one, two] = versions;
+            let mixed = [
+                plain(one, &change(1), 80, b"a\0"),
+                plain(two, &change(1), 160, b"a\0"),
+            ];
+            judge(&sealed(&mixed.concat(), 0, 1, form), FILE_CORRUPT_ERROR, 0);
+        }
+        let long = plain(own, &change(1), 96, b"a\0");
+        judge(&sealed(&long, 0, 1, form), FILE_CORRUPT_ERROR, 96);
+        let none = plain(own, &change(0), 80, b"a\0");
+        judge(&sealed(&none, 0, 1, form), FILE_CORRUPT_ERROR, 0);
     }
-    let mixed = [
-        plain(2, &change(1), 80, b"a\0"),
-        plain(3, &change(1), 160, b"a\0"),
-    ];
-    assert_eq!(load(&sealed(&mixed.concat(), 0, 1, 1)), FILE_CORRUPT_ERROR);
-    let none = plain(2, &change(0), 80, b"a\0");
-    assert_eq!(load(&sealed(&none, 0, 1, 1)), FILE_CORRUPT_ERROR);
 }
 
 #[test]
 fn image_chain() {
+    for form in [1, 2] {
+        image_chain_in(form);
+    }
+}
+
+fn image_chain_in(form: u32) {
+    let both = |image: &[u8]| {
+        let status = load(image);
+        assert_eq!(move_from(image, form, 70_000).0, status);
+        status
+    };
     let pair = |first: u64, usns: [u64; 2]| {
-        let body = usns.map(|usn| plain(2, &change(1), usn, b"a\0")).concat();
-        load(&sealed(&body, first, 1, 1))
+        let record = |usn| plain(version_of(form), &change(1), usn, b"a\0");
+        both(&sealed(&usns.map(record).concat(), first, 1, form))
     };
     assert_eq!(pair(800, [880, 960]), SUCCESS);
     for usns in [
@@ -1224,8 +1398,8 @@ fn image_chain() {
         } else {
             FILE_CORRUPT_ERROR
         };
-        assert_eq!(load(&image_of(first, 1, &[])), status);
-        assert_eq!(load(&image_of(first, 1, &[b"a\0"])), status);
+        assert_eq!(both(&image_of(form, first, 1, &[])), status);
+        assert_eq!(both(&image_of(form, first, 1, &[b"a\0"])), status);
     }
     // No position is past 2^63 - 1.
     let end = 1u64 << 63;
@@ -1243,19 +1417,25 @@ fn image_chain() {
         (u64::MAX - 79, 1, FILE_CORRUPT_ERROR),
         (u64::MAX - 7, 2, FILE_CORRUPT_ERROR),
     ] {
-        let image = image_of(first, 1, &vec![&b"a\0"[..]; records]);
-        assert_eq!(load(&image), status, "{first} {records}");
+        let image = image_of(form, first, 1, &vec![&b"a\0"[..]; records]);
+        assert_eq!(both(&image), status, "{first} {records}");
     }
 }
 
 #[test]
 fn image_span() {
+    for form in [1, 2] {
+        image_span_in(form);
+    }
+}
+
+fn image_span_in(form: u32) {
     // Names of 52 bytes make records of 128: 512 of them span 65,536.
     let name = [0x61; 52];
     let mut names = vec![&name[..]; 512];
-    let full = image_of(808, 1, &names);
-    assert_eq!(full.len(), 512 * 112 + 32);
-    assert_eq!(load(&full), SUCCESS);
+    let full = image_of(form, 808, 1, &names);
+    assert_eq!(full.len(), [512 * 112 + 32, 65_568][form as usize - 1]);
+    judge(&full, SUCCESS, 65_536);
     let smaller = |capacity: u64, image: &[u8]| {
         let ring = vec![0; capacity as usize];
         load_under(&volume(capacity), &ring, image, 99).0
@@ -1265,41 +1445,49 @@ fn image_span() {
     // Eight bytes more, and one record more. The capacity has no part in it.
     let longer = [0x61; 60];
     names[511] = &longer;
-    let eight = image_of(808, 1, &names);
+    let eight = image_of(form, 808, 1, &names);
     names[511] = &name;
     names.push(b"a\0");
-    let one = image_of(808, 1, &names);
+    let one = image_of(form, 808, 1, &names);
     for image in [eight, one] {
-        assert_eq!(load(&image), FILE_CORRUPT_ERROR);
+        judge(&image, FILE_CORRUPT_ERROR, image.len());
         assert_eq!(smaller(1024, &image), FILE_CORRUPT_ERROR);
     }
     // A span of the whole capacity fits, eight bytes more do not.
-    let image = image_of(808, 1, &[&name[..]; 8]);
+    let image = image_of(form, 808, 1, &[&name[..]; 8]);
     assert_eq!(smaller(1024, &image), SUCCESS);
     let mut names = [&name[..]; 8];
     names[0] = &longer;
-    assert_eq!(smaller(1024, &image_of(808, 1, &names)), DISK_FULL);
-    assert_eq!(smaller(1032, &image_of(808, 1, &names)), SUCCESS);
+    assert_eq!(smaller(1024, &image_of(form, 808, 1, &names)), DISK_FULL);
+    assert_eq!(smaller(1032, &image_of(form, 808, 1, &names)), SUCCESS);
 }
 
 /// A loaded journal takes posts, and its records are those that were saved.
 #[test]
 fn image_after_a_restart() {
     let (v, ring) = thirteen();
-    let (status, image) = save(&v, &ring, 800);
-    assert_eq!((status, image.len()), (SUCCESS, 12 * 64 + 32));
+    let [one, two] = [(1, 12 * 64), (2, 12 * 80)].map(|(form, body)| {
+        let (status, image) = save(&v, &ring, form, 1000);
+        assert_eq!((status, image.len()), (SUCCESS, body + 32));
+        image
+    });
     let all = |id| ask(0, u32::MAX, 0, id, Some((3, 3)));
     let before = read(&v, &ring, &all(3), 2000);
 
     // The volume as the restart finds it, and as a fresh one.
-    for (old, capacity) in [(3, 1024), (0, 4096)] {
+    for (old, capacity, image) in [
+        (3, 1024, &one),
+        (0, 4096, &one),
+        (3, 1024, &two),
+        (0, 4096, &two),
+    ] {
         let idle = Volume {
             id: old,
             ..volume(capacity)
         };
         let lost = vec![0x55; capacity as usize];
-        assert_eq!(load_under(&idle, &lost, &image, 3).0, INVALID_PARAMETER);
-        let (status, mut w, mut kept) = load_under(&idle, &lost, &image, 4);
+        assert_eq!(load_under(&idle, &lost, image, 3).0, INVALID_PARAMETER);
+        let (status, mut w, mut kept) = load_under(&idle, &lost, image, 4);
         assert_eq!((status, w.first, w.last), (SUCCESS, 80, 1040));
         assert_eq!(read(&w, &kept, &all(3), 2000).0, INVALID_PARAMETER);
         assert_eq!(read(&w, &kept, &all(4), 2000), before);
@@ -1308,7 +1496,7 @@ fn image_after_a_restart() {
         assert_eq!((posted, usn), (SUCCESS, 1120));
         let first = if capacity == 1024 { 160 } else { 80 };
         assert_eq!((w.first, w.last), (first, 1120));
-        assert_eq!(load_under(&w, &kept, &image, 5).0, INVALID_PARAMETER);
+        assert_eq!(load_under(&w, &kept, image, 5).0, INVALID_PARAMETER);
     }
 }
 
@@ -1347,14 +1535,21 @@ fn random_images() {
             list.push((c, usn, name));
         }
         list.retain(|record| record.1 > v.first);
-        let body: Vec<u8> = list
-            .iter()
-            .flat_map(|(c, usn, name)| plain(2, c, *usn, name))
-            .collect();
-        let image = sealed(&body, v.first, 9, 1);
+        let form = 1 + round as u32 / 5 % 2;
+        let body = |form| -> Vec<u8> {
+            list.iter()
+                .flat_map(|(c, usn, name)| plain(version_of(form), c, *usn, name))
+                .collect()
+        };
+        let image = sealed(&body(form), v.first, 9, form);
         let size = image.len();
-        assert_eq!(save(&v, &ring, size + 7), (SUCCESS, image.clone()));
-        assert_eq!(save(&v, &ring, size - 1).0, BUFFER_TOO_SMALL);
+        assert_eq!(save(&v, &ring, form, size + 7), (SUCCESS, image.clone()));
+        assert_eq!(save(&v, &ring, form, size - 1).0, BUFFER_TOO_SMALL);
+        // What a save in the other form writes.
+        let moved = sealed(&body(3 - form), v.first, 9, 3 - form);
+        assert_eq!(move_from(&image, form, 70_000), (SUCCESS, moved.clone()));
+        assert_eq!(save(&v, &ring, 3 - form, 70_000), (SUCCESS, moved.clone()));
+        assert_eq!(move_from(&moved, 3 - form, size), (SUCCESS, image.clone()));
 
         let other = capacities[random.below(5) as usize];
         let idle = Volume {
@@ -1382,20 +1577,22 @@ fn random_images() {
         assert_eq!((status, w), (SUCCESS, expected));
         assert!(kept == written);
         assert_eq!((w.first, w.last), (v.first, v.last));
-        let again = sealed(&body, v.first, 11, 1);
-        assert_eq!(save(&w, &kept, size), (SUCCESS, again));
+        let again = sealed(&body(form), v.first, 11, form);
+        assert_eq!(save(&w, &kept, form, size), (SUCCESS, again));
     }
 }
 
-/// Loading never panics on a damaged image, and what it accepts can be saved
-/// again as the same body.
+/// Neither loading nor moving panics on a damaged image. What a load accepts can
+/// be saved again as the same body, and a move accepts the same, but for wide ids.
 #[test]
 fn damaged_images() {
     let mut random = Random(5);
-    let whole = image_of(88, 5, &[b"a\0", &[1; 30], b"a\0b\0"]);
+    let names = [b"a\0", &[1; 30][..], b"a\0b\0"];
+    let whole = [1, 2].map(|form| image_of(form, 88, 5, &names));
     let ring = vec![0xAA; 1024];
-    let mut seen = [0; 3];
-    for _ in 0..60_000 {
+    let mut seen = [0; 4];
+    for _ in 0..100_000 {
+        let whole = &whole[random.below(2) as usize];
         let mut image = whole.clone();
         for _ in 0..random.below(3) {
             let at = random.below(image.len() as u64) as usize;
@@ -1411,16 +1608,29 @@ fn damaged_images() {
         if image.len() >= 32 && image.len().is_multiple_of(4) && random.below(4) != 0 {
             image = resealed(image);
         }
+        let form = last_word(whole);
         let (status, v, kept) = load_under(&volume(1024), &ring, &image, u64::MAX);
+        let (by_move, moved) = move_from(&image, form, 999);
         match status {
             SUCCESS => {
-                let (status, saved) = save(&v, &kept, image.len());
+                let (status, saved) = save(&v, &kept, form, image.len());
                 let end = image.len() - 16;
                 assert_eq!((status, &saved[..end]), (SUCCESS, &image[..end]));
-                seen[0] += 1;
+                let id = u64::from_le_bytes(image[end..end + 8].try_into().unwrap());
+                let other = save(&Volume { id, ..v }, &kept, 3 - form, 999);
+                assert_eq!((by_move, moved), other);
+                seen[usize::from(by_move == NOT_SUPPORTED)] += 1;
             }
-            FILE_CORRUPT_ERROR => seen[1] += 1,
-            UNKNOWN_REVISION => seen[2] += 1,
+            FILE_CORRUPT_ERROR => {
+                let stated = image.len() >= 32 && last_word(&image) != form;
+                let due = if stated { UNKNOWN_REVISION } else { status };
+                assert_eq!(by_move, due);
+                seen[2] += 1;
+            }
+            UNKNOWN_REVISION => {
+                assert_eq!(by_move, status);
+                seen[3] += 1;
+            }
             _ => panic!("{status:#x}"),
         }
     }
@@ -1599,7 +1809,8 @@ fn soundness(v: &Volume, ring: &[u8]) -> u32 {
     let status = post(&mut after, &mut written, &change(1), b"a\0", &mut usn);
     let asked = ask(v.last, 1, 0, v.id, None);
     assert_eq!(read(v, ring, &asked, 8).0, status);
-    assert_eq!(save(v, ring, 2000).0, status);
+    assert_eq!(save(v, ring, 1, 2000).0, status);
+    assert_eq!(save(v, ring, 2, 2000).0, status);
     if status != SUCCESS {
         assert_eq!((after, &written[..], usn), (*v, ring, 1));
         // Without a Reason there is no change to post, and nobody asks.
@@ -1755,24 +1966,28 @@ fn names_loaded() {
         (&BAD_NAMES[..], FILE_CORRUPT_ERROR),
     ] {
         for name in names {
-            assert_eq!(load(&image_of(88, 1, &[name])), status, "{name:?}");
-            let between = image_of(88, 1, &[b"a\0", name, b"b\0"]);
-            assert_eq!(load(&between), status, "{name:?}");
+            for form in [1, 2] {
+                judge(&image_of(form, 88, 1, &[name]), status, name.len());
+                let between = image_of(form, 88, 1, &[b"a\0", name, b"b\0"]);
+                judge(&between, status, name.len());
+            }
         }
         for name in names.iter().filter(|name| name.len() == 4) {
-            let mut image = ONE_IMAGE.to_vec();
-            image[60..64].copy_from_slice(name);
-            assert_eq!(load(&resealed(image)), status, "{name:?}");
+            for (image, at) in [(&ONE_IMAGE[..], 60), (&ONE_IMAGE_2, 76)] {
+                let mut image = image.to_vec();
+                image[at..at + 4].copy_from_slice(name);
+                judge(&resealed(image), status, at);
+            }
         }
     }
     // Behind the form number, ahead of the id and of the ring's room.
     let names = [&BAD_NAMES[..], &[&[1; 510], &[1; 510]]].concat();
-    let mut long = image_of(88, 7, &names);
+    let mut long = image_of(1, 88, 7, &names);
     let idle = volume(1024);
     let status = load_under(&idle, &[0; 1024], &long, 7).0;
     assert_eq!(status, FILE_CORRUPT_ERROR);
     let form = long.len() - 4;
-    long[form] = 2;
+    long[form] = 3;
     let status = load_under(&idle, &[0; 1024], &long, 7).0;
     assert_eq!(status, UNKNOWN_REVISION);
 }
@@ -1926,7 +2141,7 @@ fn ids_in_two_versions() {
         let reply = reply_of(max, 4080, 0, &[c]);
         assert_eq!(read(&v, &ring, &asked, 88), (SUCCESS, reply));
     }
-    assert_eq!(save(&v, &ring, 96).0, SUCCESS);
+    assert_eq!(save(&v, &ring, 1, 96).0, SUCCESS);
 }
 
 /// Three records, each in turn with a wide id: a V2 reply stops before it, or the
@@ -2067,8 +2282,8 @@ fn ids_in_a_file_read() {
     assert_eq!(status(8, &pool, &[0, 0, 2, 0]), NOT_SUPPORTED);
 }
 
-/// No image is written while a record with a wide id is kept: the first of three,
-/// the next or the last.
+/// No image of form 1 is written while a record with a wide id is kept: the first
+/// of three, the next or the last. Form 2 has room for it, and is not moved down.
 #[test]
 fn ids_in_a_save() {
     for pair in wide_pairs() {
@@ -2078,35 +2293,144 @@ fn ids_in_a_save() {
             let (v, ring) = posted(&changes);
             // The image would have 224 bytes.
             for size in [0, 31, 32, 223, 224, 5000] {
-                assert_eq!(save(&v, &ring, size), (NOT_SUPPORTED, vec![]));
+                assert_eq!(save(&v, &ring, 1, size), (NOT_SUPPORTED, vec![]));
             }
             let unsound = Volume { last: 4248, ..v };
-            assert_eq!(save(&unsound, &ring, 5000).0, FILE_CORRUPT_ERROR);
+            assert_eq!(save(&unsound, &ring, 1, 5000).0, FILE_CORRUPT_ERROR);
             let deleting = Volume { state: 2, ..v };
-            assert_eq!(save(&deleting, &ring, 5000).0, JOURNAL_DELETE_IN_PROGRESS);
+            let status = save(&deleting, &ring, 1, 5000).0;
+            assert_eq!(status, JOURNAL_DELETE_IN_PROGRESS);
+
+            let body = &reply_of(3, 0, 0, &changes)[8..];
+            let image = sealed(body, 4000, 3, 2);
+            assert_eq!(save(&v, &ring, 2, 272), (SUCCESS, image.clone()));
+            assert_eq!(save(&v, &ring, 2, 271), (BUFFER_TOO_SMALL, vec![]));
+            for size in [0, 31, 32, 223, 224, 5000] {
+                assert_eq!(move_from(&image, 2, size), (NOT_SUPPORTED, vec![]));
+            }
+            let (status, w, kept) = load_under(&volume(4096), &[0xAA; 4096], &image, 4);
+            assert_eq!((status, w.first, w.last), (SUCCESS, v.first, v.last));
+            assert_eq!(kept, ring);
+
             // It is kept no longer.
             let first = 4080 + 80 * wide as u64;
             let behind = Volume { first, ..v };
-            assert_eq!(save(&behind, &ring, 5000).0, SUCCESS);
+            assert_eq!(save(&behind, &ring, 1, 5000).0, SUCCESS);
         }
     }
     let (v, ring) = posted(&[change(1); 3]);
-    assert_eq!(save(&v, &ring, 223).0, BUFFER_TOO_SMALL);
-    assert_eq!(save(&v, &ring, 224).0, SUCCESS);
+    assert_eq!(save(&v, &ring, 1, 223).0, BUFFER_TOO_SMALL);
+    assert_eq!(save(&v, &ring, 1, 224).0, SUCCESS);
 }
 
-/// What an image holds is read back with upper bytes of zero.
+/// What an image of form 1 holds is read back with upper bytes of zero.
 #[test]
 fn ids_in_an_image() {
     let c = change_of(1, (u128::from(u64::MAX), u128::from(u64::MAX)));
     let (v, ring) = posted(&[c]);
-    let (status, image) = save(&v, &ring, 96);
+    let (status, image) = save(&v, &ring, 1, 96);
     assert_eq!(status, SUCCESS);
     assert_eq!(image[8..24], [0xFF; 16]);
     let (status, w, kept) = load_under(&volume(1024), &[0xAA; 1024], &image, 4);
     assert_eq!((status, w.last), (SUCCESS, 4080));
     // 4,000 is 3 * 1,024 + 928.
     assert_eq!(kept[928..1008], plain(3, &c, 4080, b"a\0"));
+}
+
+#[test]
+fn move_bytes() {
+    for (one, two) in [
+        (&EMPTY_IMAGE[..], &EMPTY_IMAGE_2[..]),
+        (&ONE_IMAGE, &ONE_IMAGE_2),
+    ] {
+        for (image, from, moved) in [(one, 1, two), (two, 2, one)] {
+            let size = moved.len();
+            for room in [size, size + 1, 999] {
+                assert_eq!(move_from(image, from, room), (SUCCESS, moved.to_vec()));
+            }
+            for room in 0..size {
+                assert_eq!(move_from(image, from, room), (BUFFER_TOO_SMALL, vec![]));
+            }
+        }
+    }
+}
+
+/// The form asked from, the form that the image has, the image, its ids, the room.
+#[test]
+fn move_order() {
+    let wide = sealed(&WIDE_KEPT, 4096, 7, 2);
+    let mut damaged = wide.clone();
+    damaged[0] ^= 1;
+    for from in NO_FORMS {
+        // Also where the image has that number, or is none.
+        for image in [&wide, &damaged, &sealed(&WIDE_KEPT, 4096, 7, from), &vec![]] {
+            for size in [0, 999] {
+                assert_eq!(move_from(image, from, size), (UNKNOWN_REVISION, vec![]));
+            }
+        }
+    }
+    for (image, from) in [
+        (&ONE_IMAGE[..], 2),
+        (&EMPTY_IMAGE, 2),
+        (&ONE_IMAGE_2, 1),
+        (&EMPTY_IMAGE_2, 1),
+        (&wide, 1),
+        (&damaged, 1),
+        (&[0; 32], 1),
+        (&[0; 32], 2),
+    ] {
+        for size in [0, 999] {
+            assert_eq!(move_from(image, from, size), (UNKNOWN_REVISION, vec![]));
+        }
+    }
+    for form in NO_FORMS {
+        for from in [1, 2] {
+            let image = sealed(&WIDE_KEPT, 4096, 7, form);
+            assert_eq!(move_from(&image, from, 0), (UNKNOWN_REVISION, vec![]));
+        }
+    }
+    for size in [0, 999] {
+        assert_eq!(move_from(&damaged, 2, size), (FILE_CORRUPT_ERROR, vec![]));
+        assert_eq!(move_from(&wide, 2, size), (NOT_SUPPORTED, vec![]));
+    }
+    assert_eq!(move_from(&ONE_IMAGE_2, 2, 0), (BUFFER_TOO_SMALL, vec![]));
+    assert_eq!(move_from(&ONE_IMAGE, 1, 0), (BUFFER_TOO_SMALL, vec![]));
+    // Below 32 bytes there is no form to differ.
+    for size in 0..32 {
+        for image in [EMPTY_IMAGE, EMPTY_IMAGE_2, [0; 32], [0xFF; 32]] {
+            for from in [1, 2] {
+                let got = move_from(&image[32 - size..], from, 999);
+                assert_eq!(got, (FILE_CORRUPT_ERROR, vec![]), "{size}");
+            }
+        }
+    }
+}
+
+/// Numbers are moved as they stand, with all bits that both versions have, up to
+/// the last position.
+#[test]
+fn move_keeps_the_fields() {
+    let narrow = u128::from(u64::MAX);
+    let c = Change {
+        file: narrow,
+        parent: narrow - 1,
+        time: u64::MAX,
+        reason: u32::MAX,
+        source: u32::MAX,
+        security: u32::MAX,
+        attributes: u32::MAX,
+    };
+    let last = (1u64 << 63) - 8;
+    let body = |version| {
+        [
+            plain(version, &change(1), last - 80, b"a\0"),
+            plain(version, &c, last, b"b\0"),
+        ]
+        .concat()
+    };
+    let [one, two] = [1, 2].map(|form| sealed(&body(version_of(form)), last - 160, 0, form));
+    assert_eq!(move_from(&one, 1, 192), (SUCCESS, two.clone()));
+    assert_eq!(move_from(&two, 2, 160), (SUCCESS, one));
 }
 
 /// A small generator of random numbers.
@@ -2296,10 +2620,17 @@ fn garbage() {
         let cut = |bytes: &[u8], n: u64| bytes[..bytes.len().min(n as usize)].to_vec();
         let asked = cut(&asked, 30 + random.below(40));
         let query = cut(&query, random.below(60));
-        for call in 0..5 {
+        let form = random.below(4) as u32;
+        let mut image =
+            [ONE_IMAGE.to_vec(), ONE_IMAGE_2.to_vec()][random.below(2) as usize].clone();
+        let at = random.below(image.len() as u64) as usize;
+        image[at] = random.below(256) as u8;
+        let image = cut(&image, 90 + random.below(40));
+        for call in 0..6 {
             let (status, count) = match call {
                 0 => read_journal(&v, &ring, &asked, &mut output),
-                4 => save_journal(&v, &ring, &mut output),
+                4 => save_journal(&v, &ring, form, &mut output),
+                5 => move_image(&image, form, &mut output),
                 1 => read_file(&v, &f, 1, &kept, &links, &query, &mut output),
                 2 => query_file_regions(&v, &f, &query, &mut output),
                 _ => get_reparse_point(&v, &f, &asked, &mut output),

@@ -2,7 +2,7 @@
 
 use super::{ReadInput, Rng, GUARD};
 use lanhduxe::Status::{self, Success};
-use lanhduxe::{Answer, Change, Volume};
+use lanhduxe::{move_image, Answer, Change, Volume};
 
 /// The ring's length: with room for the longest record and others.
 pub const CAPACITY: usize = 1024;
@@ -29,6 +29,15 @@ pub fn gave(bytes: Vec<u8>) -> Given {
 
 pub fn refused(status: Status) -> Given {
     (Answer { status, count: 0 }, Vec::new())
+}
+
+/// Moves an image from a form. The image stays as it is.
+pub fn moved(image: &[u8], from: u32, room: usize) -> Given {
+    let before = image.to_vec();
+    let mut output = vec![0xCC; room + GUARD];
+    let answer = move_image(image, from, &mut output[..room]);
+    assert!(image == before, "a move changed its image");
+    given(output, answer)
 }
 
 /// Guard bytes of units that no name may hold, so that a call sees a difference if
@@ -104,10 +113,10 @@ impl Journal {
         given(output, answer)
     }
 
-    pub fn save(&self, room: usize) -> Given {
+    pub fn save(&self, form: u32, room: usize) -> Given {
         let mut output = vec![0xCC; room + GUARD];
         let ring = &self.ring[..CAPACITY];
-        let answer = self.volume.save_journal(ring, &mut output[..room]);
+        let answer = self.volume.save_journal(ring, form, &mut output[..room]);
         given(output, answer)
     }
 

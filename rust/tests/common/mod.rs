@@ -1,8 +1,10 @@
 //! What the tests share: random numbers, the seed, counts of statuses, lent
-//! buffers with guard bytes, names, ids, the layout of a record, and a journal.
+//! buffers with guard bytes, names, ids, the layout of a record, a journal, and
+//! images.
 
 #![allow(dead_code)]
 
+pub mod images;
 pub mod journal;
 
 use lanhduxe::{Change, FileId, FileRecord, Link, Record, Status, Volume};
@@ -167,6 +169,19 @@ impl Counts {
             );
         }
     }
+
+    /// The same, with each status seen so many times at the least.
+    pub fn finish_often(&self, expected: &[Status], calls: u64, least: u64) {
+        self.finish(expected, calls);
+        for (status, count) in Status::ALL.iter().zip(self.counts) {
+            assert!(
+                count == 0 || count >= least,
+                "{}: {status} was seen only {count} times (seed {})",
+                self.test,
+                seed()
+            );
+        }
+    }
 }
 
 /// The statuses that each test must see.
@@ -185,10 +200,11 @@ pub mod expected {
         JournalNotActive,
         JournalEntryDeleted,
     ];
-    pub const SAVE: [Status; 7] = [
+    pub const SAVE: [Status; 8] = [
         Success,
         InvalidDeviceRequest,
         BufferTooSmall,
+        UnknownRevision,
         NotSupported,
         FileCorruptError,
         JournalDeleteInProgress,
@@ -202,6 +218,13 @@ pub mod expected {
         DiskFull,
         FileCorruptError,
         JournalDeleteInProgress,
+    ];
+    pub const MOVE: [Status; 5] = [
+        Success,
+        BufferTooSmall,
+        UnknownRevision,
+        NotSupported,
+        FileCorruptError,
     ];
     pub const FILE: [Status; 6] = [
         Success,
@@ -414,15 +437,50 @@ pub fn lay_out(version: u16, change: &Change, usn: u64, name: &[u8]) -> Vec<u8> 
 /// Bytes of an image behind its records.
 pub const TRAILER: usize = 32;
 
-/// An image's bytes: the records', and the trailer of form 1.
-pub fn image(body: &[u8], first: u64, id: u64) -> Vec<u8> {
+/// The forms of an image.
+pub const FORMS: [u32; 2] = [1, 2];
+
+/// Numbers of no form: next to those of a form, or with one of their bytes.
+pub const NO_FORMS: [u32; 10] = [
+    0,
+    3,
+    4,
+    0x100,
+    0x101,
+    0x102,
+    0x0100_0000,
+    0x0200_0000,
+    0x8000_0001,
+    u32::MAX,
+];
+
+/// The version of the records in an image of a form.
+pub fn version_of(form: u32) -> u16 {
+    match form {
+        1 => 2,
+        2 => 3,
+        _ => panic!("no image has form {form}"),
+    }
+}
+
+/// The form that a move from this one leads to.
+pub fn other_form(form: u32) -> u32 {
+    match form {
+        1 => 2,
+        2 => 1,
+        _ => panic!("no image has form {form}"),
+    }
+}
+
+/// An image's bytes: the records', and the trailer with a form's number.
+pub fn image(form: u32, body: &[u8], first: u64, id: u64) -> Vec<u8> {
     let mut bytes = body.to_vec();
     bytes.extend([0; 4]);
     bytes.extend((body.len() as u32).to_le_bytes());
     bytes.extend(first.to_le_bytes());
     bytes.extend(id.to_le_bytes());
     bytes.extend([0; 4]);
-    bytes.extend(1u32.to_le_bytes());
+    bytes.extend(form.to_le_bytes());
     seal(&mut bytes);
     bytes
 }
