@@ -10,10 +10,10 @@ const WRAPPER: &str = "rust/src/lib.rs";
 const LIBRARY: &str = "crates/lanhduxe/src/lib.rt";
 
 /// `LANHDUXE_VERSION`, and the number that `fingerprint` makes of the structs and calls of that version.
-const VERSION: (&str, u64) = ("6", 0xF1A6_5B41_AA48_A604);
+const VERSION: (&str, u64) = ("7", 0xD39E_1527_6FF2_6D8A);
 
 /// The calls of the interface.
-const CALLS: usize = 13;
+const CALLS: usize = 14;
 
 /// A struct that is shared: where the library has it, and its name in the library, in the wrapper and in the header.
 struct Shared {

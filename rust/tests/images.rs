@@ -398,7 +398,7 @@ fn random_saves_and_loads_agree_with_the_model() {
     }
     println!("images: {journals} journals, {loaded} of them went on after a load, {forms:?}");
     assert!(journals > 500 && loaded > 5000);
-    assert!(forms.iter().all(|count| *count > 5000), "{forms:?}");
+    assert!(forms.iter().all(|count| *count > 3000), "{forms:?}");
     run.saves.finish(&expected::SAVE, CALLS);
     run.loads.finish(&expected::LOAD, CALLS);
 }
@@ -418,7 +418,8 @@ fn images_to_damage(run: &mut Run) -> Vec<Vec<u8>> {
     images
 }
 
-/// What is damaged is lent to, and the counts.
+/// A ring and an output to which nothing that is damaged is loaded or moved, so
+/// that they can be lent over and over again.
 struct Targets {
     ring: Lent,
     output: Lent,
@@ -434,12 +435,14 @@ impl Targets {
         }
     }
 
-    /// Neither loads nor moves what is left of an image of a form.
-    fn refuse(&mut self, run: &mut Run, left: &[u8], form: u32, what: &str) {
+    /// What is left of an image is not loaded, and not moved from either form.
+    fn refuse(&mut self, run: &mut Run, left: &[u8], what: &str) {
         let status = run.load(&idle(65_536), &mut self.ring, left, 99).0;
         assert_eq!(status, due_of_load(left), "{what}");
-        let moved = self.moves.lend(&mut run.rng, left, form, &mut self.output);
-        assert_eq!(moved, (due_of_move(left, form), Vec::new()), "{what}");
+        for from in FORMS {
+            let moved = self.moves.lend(&mut run.rng, left, from, &mut self.output);
+            assert_eq!(moved, (due_of_move(left, from), Vec::new()), "{what}");
+        }
     }
 }
 
@@ -453,16 +456,15 @@ fn an_image_cut_at_any_byte_is_refused() {
         assert_eq!(due_of_move(&holder[..cut], form), FileCorruptError);
     }
     for image in images_to_damage(&mut run) {
-        let form = stated(&image).expect("an image");
         for cut in 0..image.len() {
-            targets.refuse(&mut run, &image[..cut], form, &format!("cut at {cut}"));
+            targets.refuse(&mut run, &image[..cut], &format!("cut at {cut}"));
         }
         run.expect(&idle(65_536), &image, 99, Success, "whole");
     }
     let refused = [UnknownRevision, FileCorruptError];
     run.loads
         .finish(&[&[Success], &refused[..]].concat(), 100_000);
-    targets.moves.counts.finish(&refused, 100_000);
+    targets.moves.counts.finish(&refused, 200_000);
 }
 
 #[test]
@@ -470,7 +472,6 @@ fn an_image_with_one_word_changed_is_refused() {
     let mut run = Run::new("changed images");
     let mut targets = Targets::new(&mut run, "moves of changed images");
     for image in images_to_damage(&mut run) {
-        let form = stated(&image).expect("an image");
         let mut changed = image.clone();
         for at in (0..image.len()).step_by(4) {
             let old = word(&image, at);
@@ -482,7 +483,7 @@ fn an_image_with_one_word_changed_is_refused() {
             }
             for value in values.into_iter().filter(|value| *value != old) {
                 changed[at..at + 4].copy_from_slice(&value.to_le_bytes());
-                targets.refuse(&mut run, &changed, form, &format!("{value} at {at}"));
+                targets.refuse(&mut run, &changed, &format!("{value} at {at}"));
             }
             changed[at..at + 4].copy_from_slice(&old.to_le_bytes());
         }
@@ -491,7 +492,7 @@ fn an_image_with_one_word_changed_is_refused() {
     let refused = [UnknownRevision, FileCorruptError];
     run.loads
         .finish(&[&[Success], &refused[..]].concat(), 100_000);
-    targets.moves.counts.finish(&refused, 100_000);
+    targets.moves.counts.finish(&refused, 200_000);
 }
 
 // ---- Images and journals around every limit.
@@ -558,6 +559,10 @@ fn around_every_limit(run: &mut Run, form: u32) {
         ("span 65,544", image_of(8, &names(816, 3))),
         ("span 65,616", image_of(8, &names(818, 2))),
         ("the other version", image(&other_version(88), 8, 7)),
+        (
+            "the other version, chained as the form's own",
+            image(&other_version(if form == 1 { 104 } else { 72 }), 8, 7),
+        ),
         (
             "the other version behind",
             image(&[&one[..], &other_version(168)].concat(), 8, 7),

@@ -295,7 +295,8 @@ fn every_field_is_moved_as_it_stands() {
     assert_eq!(tried, (2 + 64 * 7) * 3 * 3);
 }
 
-/// Names of every length, in the midst of others.
+/// Names of every length, in the midst of others. Of a wrong length they are those
+/// of no image.
 #[test]
 fn names_of_every_length_are_moved() {
     for length in (2..=510).step_by(2) {
@@ -307,6 +308,13 @@ fn names_of_every_length_are_moved() {
         let short = refused(BufferTooSmall);
         assert_eq!(moved(&one, 1, two.len() - 1), short, "{length}");
         assert_eq!(moved(&two, 2, one.len() - 1), short, "{length}");
+    }
+    for length in [0, 1, 3, 509, 511, 512, 600] {
+        for form in FORMS {
+            let image = image_of(form, 88, &[2, length, 4]);
+            let corrupt = refused(FileCorruptError);
+            assert_eq!(moved(&image, form, 3000), corrupt, "{length}");
+        }
     }
 }
 
@@ -530,28 +538,40 @@ fn damage_in_each_part_is_refused() {
         .finish_often(&[UnknownRevision, FileCorruptError], 7000, 400);
 }
 
-/// Records of both versions under one form's number, in every order, with Usns that
-/// chain by the length in version 3: only those of the form's own are an image.
+/// Records of both versions under one form's number, in every order: only those of
+/// the form's own are an image. The Usns chain by the length in version 3, and by
+/// what that would be if all records were of the form's version.
 #[test]
 fn versions_are_not_mixed() {
     let mut tried = 0;
     for form in FORMS {
+        let own = version_of(form);
+        let growth = record_length(3, 2) - record_length(own, 2);
         for mixture in 0..8u32 {
             let versions = [0, 1, 2].map(|number| 2 + (mixture >> number & 1) as u16);
-            let records = (1..).zip(versions);
-            let body: Vec<u8> = records
-                .flat_map(|(number, version)| lay_out(version, &CHANGE, 80 * number, b"aa"))
-                .collect();
-            let image = image(form, &body, 0, 7);
-            let due: Given = match versions == [version_of(form); 3] {
-                true => gave(image_of(other_form(form), 0, &[2; 3])),
+            let due: Given = match versions == [own; 3] {
+                true => gave(image_of(other_form(form), 800, &[2; 3])),
                 false => refused(FileCorruptError),
             };
-            assert_eq!(moved(&image, form, 3000), due, "{versions:?}");
-            tried += 1;
+            for by_form in [false, true] {
+                let mut usn = 800;
+                let mut body = Vec::new();
+                for version in versions {
+                    usn += match by_form {
+                        true => record_length(version, 2) + growth,
+                        false => record_length(3, 2),
+                    } as u64;
+                    body.extend(lay_out(version, &CHANGE, usn, b"aa"));
+                }
+                let image = image(form, &body, 800, 7);
+                assert_eq!(moved(&image, form, 3000), due, "{versions:?} {by_form}");
+                let status = loaded(&image, 1024).0;
+                assert_eq!(status, due.0.status, "{versions:?} {by_form}");
+                tried += 1;
+            }
         }
     }
-    assert_eq!(tried, 16);
+    assert_eq!(tried, 32);
 }
 
 /// Usns that chain by another length than that in version 3.

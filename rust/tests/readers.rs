@@ -977,7 +977,7 @@ fn readers_are_handed_what_was_posted() {
          wide id",
         run.forms, run.moves, run.unmoved
     );
-    assert!(run.forms.iter().all(|loads| *loads > 50), "{:?}", run.forms);
+    assert!(run.forms.iter().all(|loads| *loads > 20), "{:?}", run.forms);
     assert!(run.moves > 50 && run.unmoved > 20);
     println!(
         "{TEST}: in version 2 {} replies ended before a wide id and {} reads were refused for one; \

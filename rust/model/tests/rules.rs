@@ -761,9 +761,11 @@ const NO_FORMS: [u32; 8] = [0, 3, 4, 0x101, 0x102, 0x0100_0000, 0x0200_0000, u32
 /// The journal id in `ONE_IMAGE`.
 const ONE_ID: u64 = 0xC8C7_C6C5_C4C3_C2C1;
 
-/// Volume, ring and images in both forms of the two journals. With a capacity of
-/// 4,096 they begin at the ring's front.
-fn literal_journals() -> [(Volume, Vec<u8>, [&'static [u8]; 2]); 2] {
+/// Volume and ring of a journal, and its images in both forms.
+type Literal = (Volume, Vec<u8>, [&'static [u8]; 2]);
+
+/// The two journals. With a capacity of 4,096 they begin at the ring's front.
+fn literal_journals() -> [Literal; 2] {
     let empty = Volume {
         state: 1,
         id: 7,
