@@ -17,13 +17,14 @@ use Rattle.status.specs.Check.{unless, else}
 use Rattle.volume.specs.declared.Volume.{Volume}
 use Rattle.volume.specs.State.{supported, isActive, isDeleting, goodCapacity, goodPosition}
 use Rattle.volume.specs.Calls.{performed, inState, atPositions, createCheck, created, deleteOutcome, finishCheck}
-use Rattle.usn_record.specs.declared.Version.the-variants.{V2}
 use Rattle.usn_record.specs.Layout.{Record}
 use Rattle.records.proofs.Runs.{AllSound}
 use Rattle.journal_post.specs.Posts.{Journal, Posting, afterPost, afterPosts}
 use Rattle.image.specs.Image.{Image}
-use Rattle.image.proofs.RoundTrip.{read-fit, read-storable, fitting}
-use Rattle.image_load.specs.Load.{stored, postingOf, restored, settled, loadCheck}
+use Rattle.image.specs.Forms.{stored}
+use Rattle.image.proofs.RoundTrip.{fitting}
+use Rattle.image.proofs.Forms.{stored-fit, stored-storable}
+use Rattle.image_load.specs.Load.{postingOf, restored, settled, loadCheck}
 use Rattle.image_load.proofs.Restoring.{load-none, load-passed, load-succeeds, created-made}
 use Rattle.history.specs.Calls.{Call, create, post, read, delete, finish, save, load, Called, leaving, called, Effect, opens, posts, closes, nothing, loadEffect, effect, Widths, Typed}
 
@@ -132,7 +133,7 @@ module _ (j : Journal) (s : List ℕ) (id : ℕ) where
   loads-some i e q =
       let c : check ≡ none = load-succeeds (j .volume) (length (j .ring)) s id (restored j id (some i) .volume) q in
       let p = load-passed (j .volume) (length (j .ring)) s id i e c in
-      let f = fitting (i .first) (i .records) (read-fit V2 s i e) in
+      let f = fitting (i .first) (i .records) (stored-fit s i e) in
       record {
         capacity = p .capacity;
         position = f .position;
@@ -154,7 +155,7 @@ does j (post p) = refl
 does j (read a) = inl refl
 does j (delete id) = refl
 does j finish = finish-does j
-does j (save room) = inl refl
+does j (save form room) = inl refl
 does j (load s id) = load-does j s id
 
 -- ---- the arguments of a call give its effect's postings their types
@@ -177,7 +178,7 @@ record-widths (r ∷ rs) k =
 
 load-typed : (s : List ℕ) (id : ℕ) (o : Option Image) → Bytes s → stored s ≡ o → TypedEffect (loadEffect id o)
 load-typed s id none b e = tt
-load-typed s id (some i) b e = record-widths (i .records) (read-storable V2 s i b e .sound)
+load-typed s id (some i) b e = record-widths (i .records) (stored-storable s i b e .sound)
 
 pub typed-effect : (c : Call) → Typed c → TypedEffect (effect c)
 typed-effect (create id) t = tt
@@ -185,5 +186,5 @@ typed-effect (post p) t = t
 typed-effect (read a) t = tt
 typed-effect (delete id) t = tt
 typed-effect finish t = tt
-typed-effect (save room) t = tt
+typed-effect (save form room) t = tt
 typed-effect (load s id) t = load-typed s id (stored s) t refl

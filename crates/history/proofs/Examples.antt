@@ -30,8 +30,9 @@ use Rattle.journal_page.specs.Page.{stops, pageOf, pageReply}
 use Rattle.journal_read.specs.Read.{isDeleted, origin, deletedCheck, readAnswer}
 use Rattle.journal_post.specs.Posts.{Journal, Posting}
 use Rattle.image.specs.Image.{Image, wordsIn, wordSum, goodTrailer, allOf, lastFrom, fitsRing, readImage}
-use Rattle.image.proofs.Examples.{oneImage, oneBytes, one-read, one-bytes}
-use Rattle.image_load.specs.Load.{postingOf, formCheck, fitCheck, loadCheck}
+use Rattle.image.specs.Forms.{formVersion, formCheck}
+use Rattle.image.proofs.Examples.{oneImage, oneBytes, one-stored, one-bytes}
+use Rattle.image_load.specs.Load.{postingOf, fitCheck, loadCheck}
 use Rattle.history.specs.Calls.{Read, create, post, read, load, loadEffect, replyTo, statusOf, next, runs, Widths, AllTyped}
 use Rattle.history.specs.Log.{History, posted, opened, isPosted, shed, added, notePost, notePosts, notes, openedBy, opening}
 use Rattle.history.specs.Reading.{fresh, mine, follow}
@@ -206,7 +207,7 @@ told-deleted = reader 14 (List·Memᴰ·head refl) .deleted (asks 80 600) (refl,
 -- ---- a journal that is loaded: the image of one record, from position 80 to 160, under the new id 8
 
 loaded-right : statusOf disk (load oneBytes 8) ≡ Success
-unfolding loadCheck formCheck fitCheck goodCapacity goodPosition readImage goodTrailer wordSum wordsIn decode unle numberAt total records recordsIn parse parseAs accepted goodName goodUnits goodUnit layout encode le begins allOf lastFrom fitsRing chained keeps
+unfolding loadCheck formCheck formVersion fitCheck goodCapacity goodPosition readImage goodTrailer wordSum wordsIn decode unle numberAt total records recordsIn parse parseAs accepted goodName goodUnits goodUnit layout encode le begins allOf lastFrom fitsRing chained keeps
 loaded-right = refl
 
 loadedHistory : History
@@ -214,7 +215,7 @@ loadedHistory = notePosts (opened (disk .volume) 1024 80 8) (map postingOf (oneI
 
 loaded-opens : opening (disk .volume) 1024 (load oneBytes 8) ≡ some loadedHistory
 unfolding loadedHistory
-loaded-opens = ap (λ (o : Option Image). openedBy (disk .volume) 1024 (loadEffect 8 o)) one-read
+loaded-opens = ap (λ (o : Option Image). openedBy (disk .volume) 1024 (loadEffect 8 o)) one-stored
 
 -- a reader of the saved journal that had come to position 80 goes on there, and one read brings it to the end
 abbrev returns : Read

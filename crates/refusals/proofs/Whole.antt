@@ -34,11 +34,15 @@ use Rattle.file_regions.proofs.Checked.{few}
 use Rattle.reparse_point.specs.Reparse.{reparseCheck, reparseReply}
 use Rattle.journal_post.specs.Posts.{Journal}
 use Rattle.image.specs.Image.{Image}
-use Rattle.image_save.specs.Save.{saveCheck, imageReply, saveAs, saveReply}
-use Rattle.image_load.specs.Load.{settled, formCheck, fitCheck, imageCheck, loadCheck}
+use Rattle.image.specs.Image.{Image, readImage}
+use Rattle.image.specs.Forms.{formVersion, formCheck}
+use Rattle.image_writer.specs.Write.{imageReply}
+use Rattle.image_save.specs.Save.{saveCheck, saveAs, saveReply}
+use Rattle.image_move.specs.Move.{otherVersion, fromCheck, movedReply, moveFrom, moveReply}
+use Rattle.image_load.specs.Load.{settled, fitCheck, imageCheck, loadCheck}
 use Rattle.history.specs.Calls.{Call, create, post, read, delete, finish, save, load, statusOf, next}
 use Rattle.refusals.proofs.Replies.{refutes, Fair, fair-give, fair-warn, fair-guard, fair-leb, fairs, fair-never}
-use Rattle.refusals.specs.Refusal.{isWarning, isRefusal, Control, readJournal, saveJournal, readFile, readFileTable, queryRegions, getReparsePoint, listRecords, writeRecord, copyRecord, copyOlder, replyOf, usnAfter, Warned, Refusals}
+use Rattle.refusals.specs.Refusal.{isWarning, isRefusal, Control, readJournal, saveJournal, moveImage, readFile, readFileTable, queryRegions, getReparsePoint, listRecords, writeRecord, copyRecord, copyOlder, replyOf, usnAfter, Warned, Refusals}
 
 refusals-are-errors : (x : Status) → isRefusal x ≡ leb 0xC0000000 (number x)
 refusals-are-errors Success = refl
@@ -69,9 +73,29 @@ fair-read : {W : ℕ → Type 0} (v : Volume) (ring input : List ℕ) (room : �
 unfolding readReply readAnswer argumentCheck deletedCheck
 fair-read v ring input room = search (fairs, fair-from) depth 10
 
-fair-save : {W : ℕ → Type 0} (v : Volume) (ring : List ℕ) (room : ℕ) → Fair W (saveReply v ring room)
-unfolding saveAs saveCheck imageReply
-fair-save v ring room = search fairs
+fair-image : {W : ℕ → Type 0} (f : Version) (i : Image) (room : ℕ) → Fair W (imageReply f i room)
+unfolding imageReply
+fair-image f i room = search fairs
+
+fair-save : {W : ℕ → Type 0} (v : Volume) (ring : List ℕ) (form room : ℕ) → Fair W (saveReply v ring form room)
+unfolding saveReply saveCheck
+fair-save {W = W} v ring form room = search (fairs, fair-form)
+  where
+    fair-form : (o : Option Version) → Fair W (saveAs o v ring room)
+    fair-form none = search fairs
+    fair-form (some f) = search (fairs, fair-image)
+
+fair-move : {W : ℕ → Type 0} (s : List ℕ) (from room : ℕ) → Fair W (moveReply from s room)
+unfolding fromCheck
+fair-move {W = W} s from room = fair-form (formVersion from)
+  where
+    fair-held : (w : Version) (o : Option Image) → Fair W (movedReply w o room)
+    fair-held w none = search fairs
+    fair-held w (some i) = fair-image w i room
+
+    fair-form : (o : Option Version) → Fair W (moveFrom o s room)
+    fair-form none = search fairs
+    fair-form (some v) = search (fairs, fair-held)
 
 -- a warning has a header and the first region, and no room for two
 fair-answer : (eof vdl : ℕ) (a : Asked) (room : ℕ) → Fair (λ n. (room < 64) × (n ≡ 40)) (answerRegions (regionsOf eof vdl a) room)
@@ -87,7 +111,8 @@ fair-regions v f input room = search (fairs, fair-answer) depth 8
 fair-control : (c : Control) (room : ℕ) → Fair (λ n. Warned c room) (replyOf c room)
 unfolding namedReply fileCheck fileAnswer reparseReply reparseCheck writeCheck
 fair-control (readJournal v ring input) room = fair-read v ring input room
-fair-control (saveJournal v ring) room = fair-save v ring room
+fair-control (saveJournal v ring form) room = fair-save v ring form room
+fair-control (moveImage s from) room = fair-move s from room
 fair-control (readFile v f parent pool links input) room = search fairs depth 10
 fair-control (readFileTable v f parent pool places lengths shorts input) room = search fairs depth 10
 fair-control (queryRegions v f input) room =
@@ -126,7 +151,7 @@ call-refusal j (post p) usn h =
 call-refusal j (read a) usn h = (refl, refl)
 call-refusal j (delete id) usn h = (same j (performed-refusal (deleteCheck (j .volume) id) _ _ h) refl, refl)
 call-refusal j finish usn h = (same j (performed-refusal (finishCheck (j .volume)) _ _ h) refl, refl)
-call-refusal j (save room) usn h = (refl, refl)
+call-refusal j (save form room) usn h = (refl, refl)
 call-refusal j (load s id) usn h =
     let k = loadCheck (j .volume) (length (j .ring)) s id in
     (same j (performed-refusal k _ _ h) (settled-refusal k _ _ _ _ h), refl)
@@ -154,7 +179,7 @@ call-never j (post p) = posted-never (skipped (j .volume) (p .change)) (postChec
 call-never j (read a) = fair-never (fair-read (j .volume) (j .ring) (a .input) (a .room))
 call-never j (delete id) = performed-never (deleteCheck (j .volume) id) _ _ (search nevers)
 call-never j finish = performed-never (finishCheck (j .volume)) _ _ (search nevers)
-call-never j (save room) = fair-never (fair-save (j .volume) (j .ring) room)
+call-never j (save form room) = fair-never (fair-save (j .volume) (j .ring) form room)
 call-never j (load s id) = performed-never (loadCheck (j .volume) (length (j .ring)) s id) _ _ (search (nevers, never-image) depth 8)
 
 pub refusals : Refusals

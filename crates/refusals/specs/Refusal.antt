@@ -17,6 +17,7 @@ use Rattle.record_writer.specs.Write.{writeReply, copyReply, olderReply}
 use Rattle.usn_listing.specs.Listing.{listReply}
 use Rattle.journal_read.specs.Read.{readReply}
 use Rattle.image_save.specs.Save.{saveReply}
+use Rattle.image_move.specs.Move.{moveReply}
 use Rattle.file_usn.specs.FileUsn.{fileReply, tableReply}
 use Rattle.file_regions.specs.Regions.{regionsReply}
 use Rattle.reparse_point.specs.Reparse.{reparseReply}
@@ -38,8 +39,10 @@ isRefusal x = not (eqb (number x) (number Success) || isWarning x)
 pub data Control : Type 0 where
   -- volume record, ring, input
   readJournal : Volume → List ℕ → List ℕ → Control
-  -- volume record, ring
-  saveJournal : Volume → List ℕ → Control
+  -- volume record, ring, form
+  saveJournal : Volume → List ℕ → ℕ → Control
+  -- image, the form that it is moved from
+  moveImage : List ℕ → ℕ → Control
   -- volume record, file record, parent, pool of names, links, input
   readFile : Volume → FileRecord → List ℕ → List ℕ → List Link → List ℕ → Control
   -- the same with the links as three runs of numbers
@@ -59,7 +62,8 @@ pub data Control : Type 0 where
 -- its reply into so much room, by the definition that its contract cites
 abbrev pub replyOf : Control → ℕ → Reply
 replyOf (readJournal v ring input) room = readReply v ring input room
-replyOf (saveJournal v ring) room = saveReply v ring room
+replyOf (saveJournal v ring form) room = saveReply v ring form room
+replyOf (moveImage s from) room = moveReply from s room
 replyOf (readFile v f parent pool links input) room = fileReply v f parent pool links input room
 replyOf (readFileTable v f parent pool places lengths shorts input) room = tableReply v f parent pool places lengths shorts input room
 replyOf (queryRegions v f input) room = regionsReply v f input room
@@ -78,7 +82,7 @@ usnAfter j (post p) usn = postUsn (j .volume) (j .ring) (p .change) (p .name) us
 usnAfter j (read a) usn = usn
 usnAfter j (delete id) usn = usn
 usnAfter j finish usn = usn
-usnAfter j (save room) usn = usn
+usnAfter j (save form room) usn = usn
 usnAfter j (load s id) usn = usn
 
 -- ---- the promise

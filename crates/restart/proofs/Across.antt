@@ -22,8 +22,10 @@ use Rattle.journal_read.specs.Read.{isDeleted, deletedCheck, readAnswer}
 use Rattle.journal_post.specs.Posts.{Journal, Posting}
 use Rattle.journal_post.proofs.Links.{Chain, chain-le, link-rises}
 use Rattle.image.specs.Image.{Image}
+use Rattle.image.specs.Forms.{stored}
 use Rattle.image_save.specs.Save.{content}
-use Rattle.image_load.specs.Load.{stored, postingOf, restored, loadOutcome, loadRing}
+use Rattle.image_save.proofs.Saving.{saved-image}
+use Rattle.image_load.specs.Load.{postingOf, restored, loadOutcome, loadRing}
 use Rattle.image_load.proofs.Restoring.{Passed, load-succeeds, load-passed}
 use Rattle.history.specs.Calls.{Read, read, load, loadEffect, statusOf, next, runs}
 use Rattle.history.specs.Log.{History, posted, isPosted, added, notePost, notePosts, opened, openedBy, notes, opening}
@@ -37,7 +39,7 @@ use Rattle.history.proofs.Readers.{Stand, stand-boundary, formed, reply-live}
 use Rattle.history.proofs.Whole.{stands}
 use Rattle.restart.specs.Restart.{SavedAs, TypedJournal, Again}
 use Rattle.restart.specs.Across.{GoesOn, Across}
-use Rattle.restart.proofs.Whole.{saved-image, saved-stored, volume-is, loaded-keeps, loaded-again}
+use Rattle.restart.proofs.Whole.{saved-stored, volume-is, loaded-keeps, loaded-again}
 
 -- ---- chains
 
@@ -172,7 +174,7 @@ module _ (k : Journal) (g : History) (m : Sim k g) (d : Reader) (stood : Stand g
   -- both histories are live
   saved-live : Live k g
   saved-live =
-      let q = saved-image (k .volume) (k .ring) s a in
+      let q = saved-image (k .volume) (k .ring) (a .0) (a .1) s (a .2) in
       let f = marks-facts (k .volume) (length (k .ring)) (sound-facts (k .volume) (k .ring) (q .whole) .0) in
       usable-live k g m (and-true _ _ (q .on) (and-true _ _ (q .active) (eq-eqb _ _ (f .0))))
 

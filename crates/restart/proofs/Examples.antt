@@ -1,7 +1,7 @@
 -- A journal of one record that is saved and loaded again, and the checks of a load: one table and one statement.
 -- Assumes nothing.
 use mathlib.Core.Path.{_≡_, refl, ap, subst}
-use mathlib.Core.Logic.{inl, inr}
+use mathlib.Core.Logic.{inl}
 use mathlib.Core.List.{List, [], _∷_, _++_, map}
 use mathlib.Core.Option.{Option, none, some}
 use Prim.Native.Nat.{ℕ}
@@ -27,14 +27,17 @@ use Rattle.journal.specs.Boundary.{oldest}
 use Rattle.journal_post.specs.Post.{postedName, postCheck, verdict, postedVolume, postedRing}
 use Rattle.journal_post.specs.Posts.{Journal, Posting}
 use Rattle.image.specs.Image.{Image, wordsIn, wordSum, sumOf, sealed, imageOf, goodTrailer, allOf, lastFrom, fitsRing, readImage}
-use Rattle.image.proofs.Examples.{oneImage, oneBytes, one-read, one-bytes}
-use Rattle.image_save.specs.Save.{saveCheck, imageReply, saveAs, saveReply}
-use Rattle.image_load.specs.Load.{postingOf, formCheck, fitCheck, loadCheck, loadOutcome, loadRing}
+use Rattle.image.proofs.Examples.{oneImage, oneBytes, one-stored, one-bytes}
+use Rattle.image.specs.Forms.{formVersion, formCheck}
+use Rattle.image_writer.specs.Write.{imageReply}
+use Rattle.image_save.specs.Save.{saveCheck, saveReply}
+use Rattle.image_load.specs.Load.{postingOf, fitCheck, loadCheck, loadOutcome, loadRing}
 use Rattle.history.specs.Calls.{Call, create, post, load, loadEffect, next, runs}
 use Rattle.history.specs.Log.{History, posted, opened, isPosted, shed, added, notePost, notePosts, notes, openedBy, opening}
 use Rattle.history.specs.Reading.{Reader, fresh}
 use Rattle.history.proofs.Effects.{clash}
-use Rattle.restart.specs.Restart.{NeverLoads, SavedAs, TypedJournal, IsImage, Ready, Again}
+use Rattle.restart.specs.Restart as image
+use Rattle.restart.specs.Restart.{NeverTaken, SavedAs, TypedJournal, IsImage, Ready, Again}
 use Rattle.restart.specs.Across.{GoesOn}
 use Rattle.restart.proofs.Whole.{restart}
 use Rattle.restart.proofs.Across.{across}
@@ -63,8 +66,8 @@ pub ring : List ℕ
 ring = replicate 80 0 ++ (recordBytes ++ replicate 864 0)
 
 -- 96 bytes of room are enough
-pub one-saved : saveReply saved ring 96 ≡ give Success oneBytes
-unfolding ring saveAs saveCheck imageReply sound goodMarks goodCapacity goodPosition kept keptBytes rotated records recordsIn parse parseAs accepted goodName goodUnits goodUnit layout encode decode le unle total begins chained keeps imageOf sealed sumOf wordSum wordsIn joined allZero allShown
+pub one-saved : saveReply saved ring 1 96 ≡ give Success oneBytes
+unfolding ring saveReply saveCheck formVersion imageReply sound goodMarks goodCapacity goodPosition kept keptBytes rotated records recordsIn parse parseAs accepted goodName goodUnits goodUnit layout encode decode le unle total begins chained keeps imageOf sealed sumOf wordSum wordsIn joined allZero allShown
 one-saved = refl
 
 typed : TypedJournal saved ring
@@ -94,7 +97,7 @@ ready =
     }
 
 pub one-again : Again saved ring 8 (loadOutcome idle other oneBytes 8) (loadRing idle other oneBytes 8)
-one-again = restart .again saved ring oneBytes typed (96, one-saved) idle other 8 ready
+one-again = restart .again saved ring oneBytes typed (1, 96, one-saved) idle other 8 ready
 
 -- the volume record and the ring that the load leaves there
 abbrev pub loadedVolume : Volume
@@ -104,7 +107,7 @@ pub loadedRing : List ℕ
 loadedRing = replicate 80 255 ++ (recordBytes ++ replicate 864 255)
 
 pub one-loaded : (loadOutcome idle other oneBytes 8 ≡ record { status = Success; volume = loadedVolume }) × (loadRing idle other oneBytes 8 ≡ loadedRing)
-unfolding other loadedRing loadCheck formCheck fitCheck goodCapacity goodPosition readImage goodTrailer wordSum wordsIn decode unle numberAt total records recordsIn parse parseAs accepted goodName goodUnits goodUnit layout encode le begins allOf lastFrom fitsRing chained keeps verdict postCheck postedName postedVolume postedRing oldest placed rotated sound goodMarks kept keptBytes
+unfolding other loadedRing loadCheck formCheck formVersion fitCheck goodCapacity goodPosition readImage goodTrailer wordSum wordsIn decode unle numberAt total records recordsIn parse parseAs accepted goodName goodUnits goodUnit layout encode le begins allOf lastFrom fitsRing chained keeps verdict postCheck postedName postedVolume postedRing oldest placed rotated sound goodMarks kept keptBytes
 one-loaded = (refl, refl)
 
 -- ---- and its history goes on there: the journal is one created at position 80, with one post
@@ -144,7 +147,7 @@ unfolding ring verdict postCheck postedName postedVolume postedRing oldest place
 calls-leave = refl
 
 loaded-opens : opening idle 1024 (load oneBytes 8) ≡ some loadedHistory
-loaded-opens = ap (λ (o : Option Image). openedBy idle 1024 (loadEffect 8 o)) one-read
+loaded-opens = ap (λ (o : Option Image). openedBy idle 1024 (loadEffect 8 o)) one-stored
 
 -- the record of the post, alone, under its old Usn
 pub one-posted : posted loadedHistory ≡ record {
@@ -165,22 +168,22 @@ one-across =
     across blank (create 7) history refl refl calls [] 80 (reader .filter) tt
     (record { file = record { size = refl; bytes = are-bytes five refl }; parent = record { size = refl; bytes = are-bytes six refl }; time = lit< tt; reason = lit< tt; source = lit< tt; security = lit< tt; attributes = lit< tt }, tt)
     (λ q. clash cc, tt) (inl refl) (λ z. omega arith) tt (subst (λ (j : Journal). TypedJournal (j .volume) (j .ring)) calls-leave typed) oneBytes one-bytes
-    (subst (λ (j : Journal). SavedAs (j .volume) (j .ring) oneBytes) calls-leave (96, one-saved)) (record { volume = idle; ring = other }) 8 loadedHistory
+    (subst (λ (j : Journal). SavedAs (j .volume) (j .ring) oneBytes) calls-leave (1, 96, one-saved)) (record { volume = idle; ring = other }) 8 loadedHistory
     (one-again .status) loaded-opens
 
 -- ---- cut short, and with another word
 
 is-image : IsImage oneBytes
-is-image = inr (saved, ring, typed, (96, one-saved))
+is-image = image.saved saved ring typed (1, 96, one-saved)
 
-pub one-cut : NeverLoads (take 95 oneBytes)
+pub one-cut : NeverTaken (take 95 oneBytes)
 one-cut = restart .cut oneBytes one-bytes is-image 95 (lit< tt)
 
 -- another file id
 abbrev pub renamed : List ℕ
 renamed = set oneBytes 8 9
 
-pub one-word : NeverLoads renamed
+pub one-word : NeverTaken renamed
 one-word =
     restart .word oneBytes renamed 2 one-bytes (are-bytes renamed refl) is-image
     (record { size = refl; front = refl; back = refl; other = λ z. let d : _≡_ {A = ℕ} 9 5 = ap (λ (s : List ℕ). getD s 8 0) z in omega arith })
@@ -211,8 +214,9 @@ checks =
     ∷ record { support = 0; state = 0; buffer = 1024; image = oneBytes; id = 8; says = some InvalidDeviceRequest }
     ∷ record { support = 1; state = 2; buffer = 1024; image = oneBytes; id = 8; says = some JournalDeleteInProgress }
     ∷ record { support = 1; state = 1; buffer = 1024; image = oneBytes; id = 8; says = some InvalidParameter }
-    -- form 2, 31 bytes, another sum, another length of the buffer
-    ∷ record { support = 1; state = 0; buffer = 1024; image = set oneBytes 92 2; id = 8; says = some UnknownRevision }
+    -- form 3, form 2 with records of version 2, 31 bytes, another sum, another length of the buffer
+    ∷ record { support = 1; state = 0; buffer = 1024; image = set oneBytes 92 3; id = 8; says = some UnknownRevision }
+    ∷ record { support = 1; state = 0; buffer = 1024; image = set oneBytes 92 2; id = 8; says = some FileCorruptError }
     ∷ record { support = 1; state = 0; buffer = 1024; image = take 31 oneBytes; id = 8; says = some FileCorruptError }
     ∷ record { support = 1; state = 0; buffer = 1024; image = set oneBytes 88 9; id = 8; says = some FileCorruptError }
     ∷ record { support = 1; state = 0; buffer = 1016; image = oneBytes; id = 8; says = some FileCorruptError }
@@ -226,7 +230,7 @@ pub checks-right : map (λ (e : Check). record {
   id = e .id;
   says = loadCheck (volumeIn (e .support) (e .state)) (e .buffer) (e .image) (e .id);
 }) checks ≡ checks
-unfolding loadCheck formCheck fitCheck goodCapacity goodPosition readImage goodTrailer wordSum wordsIn decode unle numberAt total records recordsIn parse parseAs accepted goodName goodUnits goodUnit layout encode le begins allOf lastFrom fitsRing chained keeps
+unfolding loadCheck formCheck formVersion fitCheck goodCapacity goodPosition readImage goodTrailer wordSum wordsIn decode unle numberAt total records recordsIn parse parseAs accepted goodName goodUnits goodUnit layout encode le begins allOf lastFrom fitsRing chained keeps
 checks-right = refl
 
 -- records that span 1,032 bytes, under a new id and under 0: the id is checked first

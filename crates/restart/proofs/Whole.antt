@@ -1,42 +1,43 @@
 -- The promise of a restart.
 -- Assumes nothing.
 use mathlib.Core.Path.{_≡_, refl, sym, ap, ap₂, _∙_, subst, subst₂}
-use mathlib.Core.Logic.{inl, inr}
 use mathlib.Core.Bool.{true, not}
 use mathlib.Core.Option.{Option, none, some}
 use mathlib.Core.List.{List}
 use Prim.Native.Nat.{ℕ, _+_, _*_, _<_}
 use native.Mathlib.Omega.{arith}
-use lib.Dec.{leb}
 use lib.ListN.{length, take, drop}
 use borrow.Author.Tests.{ne-eqb}
 use Rattle.le.specs.Bytes.{Bytes}
 use Rattle.le.proofs.Runs.{and-left}
 use Rattle.status.specs.declared.Status.{Status}
-use Rattle.status.specs.declared.Status.the-variants.{Success, BufferTooSmall}
-use Rattle.status.specs.Check.{unless}
-use Rattle.status.specs.Reply.{Reply, give, guard}
-use Rattle.status.proofs.Checking.{else-none, else-right, unless-true}
+use Rattle.status.specs.declared.Status.the-variants.{Success}
 use Rattle.volume.specs.declared.Volume.{Volume}
 use Rattle.volume.specs.declared.Outcome.{Outcome}
-use Rattle.volume.specs.State.{supported, isActive, isDeleting, activeCheck, goodCapacity}
+use Rattle.volume.specs.State.{isActive, goodCapacity}
 use Rattle.volume.specs.Calls.{performed}
-use Rattle.usn_record.specs.declared.Version.the-variants.{V2}
-use Rattle.records.specs.Records.{allShown}
+use Rattle.usn_record.specs.declared.Version.{Version}
 use Rattle.journal.specs.Kept.{goodMarks, sound, kept}
 use Rattle.journal.proofs.Boundaries.{sound-facts, marks-facts}
 use Rattle.journal_post.specs.Posts.{Journal}
 use Rattle.journal_post.proofs.Keeping.{Keeping, keeping-kept}
-use Rattle.image.specs.Image.{Image, imageOf, lastFrom}
+use Rattle.image.specs.Image.{Image, lastFrom, readImage}
+use Rattle.image.specs.Forms.{stored}
 use Rattle.image.proofs.RoundTrip.{Storable}
 use Rattle.image.proofs.Cut as cutting
 use Rattle.image.proofs.OneWord.{one-word}
-use Rattle.image.proofs.Saving.{kept-storable, kept-end, saved-read}
-use Rattle.image_save.specs.Save.{saveCheck, content, imageReply, saveAs}
-use Rattle.image_load.specs.Load.{stored, loadCheck, restored, settled, loadOutcome, loadRing}
+use Rattle.image.proofs.Saving.{kept-storable, kept-end}
+use Rattle.image.proofs.Forms.{none-some, read-stored, stored-read, stored-none}
+use Rattle.image_judge.specs.Steps.{marksOf}
+use Rattle.image_save.specs.Save.{content}
+use Rattle.image_save.proofs.Saving.{saved-image, saved-back}
+use Rattle.image_load.specs.Load.{loadCheck, restored, settled, loadOutcome, loadRing}
 use Rattle.image_load.proofs.Restoring.{Passed, load-succeeds, load-none, passed-check, restored-put, restored-keeps}
-use Rattle.image_load.specs.Steps.{loadedVolume, marksOf}
-use Rattle.restart.specs.Restart.{Loads, NeverLoads, SavedAs, TypedJournal, IsImage, OtherWord, Ready, Again, Restart}
+use Rattle.image_load.specs.Steps.{loadedVolume}
+use Rattle.image_move.specs.Moves.{MovedTo}
+use Rattle.image_move.proofs.Whole.{moved-so}
+use Rattle.image_move.proofs.Whole as moving
+use Rattle.restart.specs.Restart.{Loads, NeverTaken, SavedAs, TypedJournal, IsImage, loads, moves, saved, moved, OtherWord, Ready, Again, Restart}
 
 clash : {A : Type 0} → _≡_ {A = ℕ} 0 1 → A
 clash z = absurd (omega arith)
@@ -54,63 +55,47 @@ loads-stored v ring s id e = by (stored s) refl
         clash cc
     by (some i) q = (i, q)
 
-guarded : (o : Option Status) (r : Reply) (s : List ℕ) → guard o r ≡ give Success s → (o ≡ none) × (r ≡ give Success s)
-guarded none r s e = (refl, e)
-guarded (some x) r s e = clash cc
-
-given : (s t : List ℕ) → give Success s ≡ give Success t → s ≡ t
-given s t e = cc
-
--- what saving has written is the image of an active journal with a sound ring, all ids of which version 2 shows
-pub record Saved (v : Volume) (ring s : List ℕ) : Type 0 where
-  pub on : supported (v .journal) ≡ true
-  pub active : isActive v ≡ true
-  pub whole : sound v ring ≡ true
-  pub shown : allShown V2 (kept v ring) ≡ true
-  pub image : s ≡ imageOf V2 (content v ring)
-
-pub saved-image : (v : Volume) (ring s : List ℕ) → SavedAs v ring s → Saved v ring s
-unfolding saveAs saveCheck imageReply
-saved-image v ring s (room, e) =
-    let image : List ℕ = imageOf V2 (content v ring) in
-    let a = guarded (saveCheck V2 v ring) (imageReply image room) s e in
-    let b = guarded (unless (leb (length image) room) BufferTooSmall) (give Success image) s (a .1) in
-    let c = else-none (unless (supported (v .journal)) _) _ (a .0) in
-    let d = else-none (activeCheck v) _ (c .1) in
-    let f = else-none (unless (sound v ring) _) _ (d .1) in
-    record {
-      on = unless-true (supported (v .journal)) _ (c .0);
-      active = unless-true (isActive v) _ (else-right (unless (not (isDeleting v)) _) _ (d .0));
-      whole = unless-true (sound v ring) _ (f .0);
-      shown = unless-true (allShown V2 (kept v ring)) _ (f .1);
-      image = sym (given image s (b .1));
-    }
-
 pub saved-stored : (v : Volume) (ring s : List ℕ) → TypedJournal v ring → SavedAs v ring s → stored s ≡ some (content v ring)
-saved-stored v ring s t w =
-    let k = saved-image v ring s w in
-    ap stored (k .image) ∙ saved-read v ring (t .0) (k .whole) V2 (v .id) (t .1) (k .shown)
+saved-stored v ring s t (form, room, e) =
+    let k = saved-image v ring form room s e in
+    read-stored (k .version) s (content v ring) (saved-back v ring form s k (t .0) (t .1))
+
+moves-stored : (from : ℕ) (s t : List ℕ) → MovedTo from s t → (i : Image) × (stored s ≡ some i)
+moves-stored from s t m = let k = moved-so from s t m in (k .image, read-stored (k .version) s (k .image) (k .read))
 
 image-stored : (s : List ℕ) → IsImage s → (i : Image) × (stored s ≡ some i)
-image-stored s (inl (v, ring, id, e)) = loads-stored v ring s id e
-image-stored s (inr (v, ring, t, w)) = (content v ring, saved-stored v ring s t w)
+image-stored s (loads v ring id e) = loads-stored v ring s id e
+image-stored s (moves from t m) = moves-stored from s t m
+image-stored s (saved v ring t w) = (content v ring, saved-stored v ring s t w)
+image-stored s (moved from r b m) = let k = moving.moves .keeps from r s b m in (k .image, k .held .1)
 
--- what holds nothing loads nowhere
-none-loads : (s : List ℕ) → stored s ≡ none → NeverLoads s
-none-loads s n v ring id e = let k = loads-stored v ring s id e in let z : none ≡ some (k .0) = sym n ∙ k .1 in clash cc
+-- what is read in neither form is never taken
+none-taken : (s : List ℕ) → ((v : Version) → readImage v s ≡ none) → NeverTaken s
+none-taken s n =
+    record {
+      loads = λ v ring id e. let k = loads-stored v ring s id e in held (k .0) (k .1);
+      moves = λ from t m. let k = moves-stored from s t m in held (k .0) (k .1);
+    }
+  where
+    held : (i : Image) → stored s ≡ some i → ⊥
+    held i e = let z : none ≡ some i = sym (stored-none s n) ∙ e in none-some i z
 
 -- ---- cut, or with another word
 
-cut-never : (s : List ℕ) → Bytes s → IsImage s → (n : ℕ) → n < length s → NeverLoads (take n s)
-cut-never s b e n h = let k = image-stored s e in none-loads (take n s) (cutting.cut V2 V2 s (k .0) n b (k .1) h)
+cut-never : (s : List ℕ) → Bytes s → IsImage s → (n : ℕ) → n < length s → NeverTaken (take n s)
+cut-never s b e n h =
+    let i = image-stored s e in
+    let r = stored-read s (i .0) (i .1) in
+    none-taken (take n s) (λ w. cutting.cut (r .0) w s (i .0) n b (r .2) h)
 
-word-never : (s t : List ℕ) (k : ℕ) → Bytes s → Bytes t → IsImage s → OtherWord k s t → NeverLoads t
+word-never : (s t : List ℕ) (k : ℕ) → Bytes s → Bytes t → IsImage s → OtherWord k s t → NeverTaken t
 word-never s t k b c e d =
     let i = image-stored s e in
+    let r = stored-read s (i .0) (i .1) in
     let m : 4 * k ≡ k * 4 = omega arith in
-    none-loads t
-    (one-word V2 V2 k s t (i .0) b c (sym (d .size)) (subst (λ (x : ℕ). take x s ≡ take x t) m (sym (d .front)))
-    (subst (λ (x : ℕ). drop (x + 4) s ≡ drop (x + 4) t) m (sym (d .back))) (λ q. d .other (sym q)) (i .1))
+    none-taken t
+    (λ w. one-word (r .0) w k s t (i .0) b c (sym (d .size)) (subst (λ (x : ℕ). take x s ≡ take x t) m (sym (d .front)))
+    (subst (λ (x : ℕ). drop (x + 4) s ≡ drop (x + 4) t) m (sym (d .back))) (λ q. d .other (sym q)) (r .2))
 
 -- ---- there again
 
@@ -119,7 +104,7 @@ module _ (v : Volume) (ring s : List ℕ) (t : TypedJournal v ring) (a : SavedAs
   i = content v ring
 
   whole : sound v ring ≡ true
-  whole = saved-image v ring s a .whole
+  whole = saved-image v ring (a .0) (a .1) s (a .2) .whole
 
   held : stored s ≡ some i
   held = saved-stored v ring s t a

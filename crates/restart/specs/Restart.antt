@@ -1,6 +1,6 @@
--- What a restart keeps: an image that is cut short or has one word changed is never loaded, and a journal that was saved is there again.
+-- What a restart keeps: an image that is cut short or has one word changed is never loaded nor moved, and a journal that was saved is there
+-- again. All of it holds of both forms.
 use mathlib.Core.Path.{_≡_}
-use mathlib.Core.Logic.{_⊎_}
 use mathlib.Core.Bool.{true, false}
 use mathlib.Core.List.{List}
 use Prim.Native.Nat.{ℕ, _+_, _*_, _^_, _<_}
@@ -14,6 +14,7 @@ use Rattle.volume.specs.State.{supported, isActive, isDeleting}
 use Rattle.journal.specs.Kept.{kept}
 use Rattle.image_save.specs.Save.{saveReply}
 use Rattle.image_load.specs.Load.{loadOutcome, loadRing}
+use Rattle.image_move.specs.Moves.{MovedTo}
 
 -- ---- images
 
@@ -21,23 +22,25 @@ use Rattle.image_load.specs.Load.{loadOutcome, loadRing}
 abbrev pub Loads : Volume → List ℕ → List ℕ → ℕ → Type 0
 Loads v ring s id = loadOutcome v ring s id .status ≡ Success
 
--- s loads nowhere
-abbrev pub NeverLoads : List ℕ → Type 0
-NeverLoads s = (v : Volume) (ring : List ℕ) (id : ℕ) → Loads v ring s id → ⊥
+-- s loads nowhere, and is moved from no form
+pub record NeverTaken (s : List ℕ) : Type 0 where
+  pub loads : (v : Volume) (ring : List ℕ) (id : ℕ) → Loads v ring s id → ⊥
+  pub moves : (from : ℕ) (t : List ℕ) → MovedTo from s t → ⊥
 
--- saving this journal, with room enough, writes s
+-- saving this journal in some form, with room enough, writes s
 abbrev pub SavedAs : Volume → List ℕ → List ℕ → Type 0
-SavedAs v ring s = (room : ℕ) × (saveReply v ring room ≡ give Success s)
+SavedAs v ring s = (form : ℕ) × (room : ℕ) × (saveReply v ring form room ≡ give Success s)
 
 -- the journal's arguments have their types: its ring is bytes, its id a u64
 abbrev pub TypedJournal : Volume → List ℕ → Type 0
 TypedJournal v ring = Bytes ring × (v .id < 2 ^ 64)
 
--- an image: it loads somewhere, or saving has written it
-abbrev pub IsImage : List ℕ → Type 0
-IsImage s =
-    ((v : Volume) × (ring : List ℕ) × (id : ℕ) × Loads v ring s id)
-    ⊎ ((v : Volume) × (ring : List ℕ) × TypedJournal v ring × SavedAs v ring s)
+-- an image: it loads somewhere, or it can be moved, or saving or a move has written it
+pub data IsImage (s : List ℕ) : Type 0 where
+  loads : (v : Volume) (ring : List ℕ) (id : ℕ) → Loads v ring s id → IsImage s
+  moves : (from : ℕ) (t : List ℕ) → MovedTo from s t → IsImage s
+  saved : (v : Volume) (ring : List ℕ) → TypedJournal v ring → SavedAs v ring s → IsImage s
+  moved : (from : ℕ) (r : List ℕ) → Bytes r → MovedTo from r s → IsImage s
 
 -- t is s but for the 32-bit word k, which is another
 pub record OtherWord (k : ℕ) (s t : List ℕ) : Type 0 where
@@ -71,10 +74,10 @@ pub record Again (v : Volume) (ring : List ℕ) (new : ℕ) (o : Outcome) (after
 -- ---- the promise
 
 pub record Restart : Type 0 where
-  -- no proper prefix of an image is ever loaded
-  pub cut : (s : List ℕ) → Bytes s → IsImage s → (n : ℕ) → n < length s → NeverLoads (take n s)
+  -- no proper prefix of an image is ever loaded or moved
+  pub cut : (s : List ℕ) → Bytes s → IsImage s → (n : ℕ) → n < length s → NeverTaken (take n s)
   -- nor is an image with one word changed
-  pub word : (s t : List ℕ) (k : ℕ) → Bytes s → Bytes t → IsImage s → OtherWord k s t → NeverLoads t
+  pub word : (s t : List ℕ) (k : ℕ) → Bytes s → Bytes t → IsImage s → OtherWord k s t → NeverTaken t
   -- an image that saving wrote brings back first position, LastUsn and the kept records
   pub again : (v : Volume) (ring s : List ℕ) → TypedJournal v ring → SavedAs v ring s → (w : Volume) (other : List ℕ) (id : ℕ) → Ready v w other id
       → Again v ring id (loadOutcome w other s id) (loadRing w other s id)

@@ -27,7 +27,9 @@ use Rattle.journal_page.specs.Page.{stops, pageOf, pageReply}
 use Rattle.journal_read.specs.Input.{argumentCheck}
 use Rattle.journal_read.specs.Read.{isDeleted, origin, deletedCheck, readAnswer, readReply}
 use Rattle.image.specs.Image.{sealed, imageOf}
-use Rattle.image_save.specs.Save.{saveCheck, imageReply, saveAs}
+use Rattle.image.specs.Forms.{formVersion}
+use Rattle.image_writer.specs.Write.{imageReply}
+use Rattle.image_save.specs.Save.{saveCheck, saveReply}
 use Rattle.history.specs.Calls.{Call, create, post, read, delete, finish, save, statusOf, next}
 use Rattle.unsound.specs.Until.{Unsound}
 
@@ -101,12 +103,12 @@ statuses j (c ∷ cs) = statusOf j c ∷ statuses (next j c) cs
 
 -- refused until the journal is deleted and created anew; then only the name with the separator is
 pub refused-until-anew :
-    statuses (keeping 0x5C) (good ∷ all 7 ∷ save 600 ∷ create 8 ∷ delete 7 ∷ finish ∷ create 8 ∷ good ∷ separated ∷ all 8 ∷ save 600 ∷ [])
+    statuses (keeping 0x5C) (good ∷ all 7 ∷ save 1 600 ∷ create 8 ∷ delete 7 ∷ finish ∷ create 8 ∷ good ∷ separated ∷ all 8 ∷ save 1 600 ∷ [])
     ≡ FileCorruptError ∷ FileCorruptError ∷ FileCorruptError ∷ InvalidParameter ∷ Success ∷ Success ∷ Success ∷ Success ∷ InvalidParameter ∷ Success ∷ Success ∷ []
-unfolding verdict postCheck postedName postedVolume postedRing oldest placed rotated sound goodMarks goodCapacity goodPosition kept keptBytes records recordsIn parse parseAs accepted goodName goodUnits goodUnit layout encode decode le unle numberAt begins chained keeps wanted allZero fits stops pageOf pageReply recordsAfter argumentCheck isDeleted origin deletedCheck readAnswer readReply saveCheck imageReply saveAs imageOf sealed joined allShown
+unfolding verdict postCheck postedName postedVolume postedRing oldest placed rotated sound goodMarks goodCapacity goodPosition kept keptBytes records recordsIn parse parseAs accepted goodName goodUnits goodUnit layout encode decode le unle numberAt begins chained keeps wanted allZero fits stops pageOf pageReply recordsAfter argumentCheck isDeleted origin deletedCheck readAnswer readReply saveReply saveCheck formVersion imageReply imageOf sealed joined allShown
 refused-until-anew = refl
 
 -- with another name it is not
-pub not-refused : statuses (keeping 0x5D) (good ∷ all 7 ∷ save 600 ∷ separated ∷ []) ≡ Success ∷ Success ∷ Success ∷ InvalidParameter ∷ []
-unfolding verdict postCheck postedName postedVolume postedRing oldest placed rotated sound goodMarks goodCapacity goodPosition kept keptBytes records recordsIn parse parseAs accepted goodName goodUnits goodUnit layout encode decode le unle numberAt begins chained keeps wanted allZero fits stops pageOf pageReply recordsAfter argumentCheck isDeleted origin deletedCheck readAnswer readReply saveCheck imageReply saveAs imageOf sealed joined allShown
+pub not-refused : statuses (keeping 0x5D) (good ∷ all 7 ∷ save 1 600 ∷ separated ∷ []) ≡ Success ∷ Success ∷ Success ∷ InvalidParameter ∷ []
+unfolding verdict postCheck postedName postedVolume postedRing oldest placed rotated sound goodMarks goodCapacity goodPosition kept keptBytes records recordsIn parse parseAs accepted goodName goodUnits goodUnit layout encode decode le unle numberAt begins chained keeps wanted allZero fits stops pageOf pageReply recordsAfter argumentCheck isDeleted origin deletedCheck readAnswer readReply saveReply saveCheck formVersion imageReply imageOf sealed joined allShown
 not-refused = refl

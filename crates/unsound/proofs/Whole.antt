@@ -16,7 +16,7 @@ use Rattle.le.specs.Numbers.{le, unle, encode, decode}
 use Rattle.le.proofs.Numbers.{length-le, unle-le}
 use Rattle.le.proofs.Runs.{begins-append}
 use Rattle.status.specs.declared.Status.{Status}
-use Rattle.status.specs.declared.Status.the-variants.{Success, InvalidParameter, InvalidDeviceRequest, NotSupported, FileCorruptError, JournalDeleteInProgress, JournalNotActive}
+use Rattle.status.specs.declared.Status.the-variants.{Success, InvalidParameter, InvalidDeviceRequest, FileCorruptError, JournalDeleteInProgress, JournalNotActive}
 use Rattle.status.specs.Check.{unless, else}
 use Rattle.status.specs.Reply.{guard, answer}
 use Rattle.volume.specs.declared.Volume.{Volume}
@@ -25,13 +25,13 @@ use Rattle.volume.specs.Calls.{performed, inState, createCheck, created, delete
 use Rattle.volume.proofs.Marks.{position-facts}
 use Rattle.names.specs.Names.{goodName}
 use Rattle.usn_record.specs.declared.Version.{Version}
-use Rattle.usn_record.specs.declared.Version.the-variants.{V2}
+use Rattle.usn_record.specs.declared.Version.{Version}
 use Rattle.usn_record.specs.Layout.{nameOffset, recordLength, padding, widths, values, layout, Record, bytesOf, lengthOf}
 use Rattle.usn_record.proofs.Record.{number-range, length-fields, length-layout}
 use Rattle.record_reader.specs.Read.{candidate, parse}
 use Rattle.record_reader.proofs.Judge.{taken}
 use Rattle.record_reader.proofs.RoundTrip.{version-begins, parsed}
-use Rattle.records.specs.Records.{Records, whole, bad, recordList, records, joined, allShown}
+use Rattle.records.specs.Records.{Records, whole, bad, recordList, records, joined}
 use Rattle.records.proofs.Runs.{record-long, tail-cons}
 use Rattle.journal.specs.Kept.{keptBytes, inChain, sound, kept}
 use Rattle.journal.proofs.Walks.{not-both}
@@ -43,9 +43,9 @@ use Rattle.journal_post.specs.Posts.{Journal, Posting}
 use Rattle.journal_post.proofs.Keeping.{Keeping, empty-kept, keeping-kept, keeping-sound}
 use Rattle.journal_read.specs.Read.{readCheck, readAnswer, readReply}
 use Rattle.journal_read.proofs.Seeking.{length-kept}
-use Rattle.image.specs.Image.{imageOf}
+use Rattle.image.specs.Forms.{formVersion, known}
 use Rattle.image.proofs.Bodies.{same-version}
-use Rattle.image_save.specs.Save.{saveCheck, content, imageReply, saveAs}
+use Rattle.image_save.specs.Save.{saveCheck, saveAs, saveReply}
 use Rattle.image_load.specs.Load.{settled, loadCheck}
 use Rattle.history.specs.Calls.{Read, Call, create, post, read, delete, finish, save, load, statusOf, next, runs}
 use Rattle.history.proofs.Effects.{with, emptied, either, does}
@@ -210,7 +210,7 @@ module _ (j : Journal) (u : Unsound j) where
   step (delete id) n =
       stay (performed-left (deleteCheck v id) v (inState v 2) (refuses-right (activeCheck v) _ (refuses-unless (eqb id (v .id)) InvalidParameter (ne-eqb id (v .id) (λ e. n (ap delete e)))))) refl
   step finish n = stay (performed-left (finishCheck v) v (inState v 0) (refuses-right (unless (isActive v || isDeleting v) JournalNotActive) _ unidle)) refl
-  step (save room) n = refl
+  step (save form room) n = refl
   step (load s id) n =
       stay (performed-left (loadCheck v (length (j .ring)) s id) v _ (load-refuses s id)) (settled-left (loadCheck v (length (j .ring)) s id) (j .ring) _ (load-refuses s id))
 
@@ -222,14 +222,13 @@ module _ (j : Journal) (u : Unsound j) where
   unfolding readReply
   read-corrupt a e = ap₂ (λ (o : Option Status) (b : Bool). answer (guard o (guard (unless b FileCorruptError) (readAnswer (v .first) (kept v (j .ring)) (a .input) (a .room)))) .status) e (u .unsound)
 
-  save-corrupt : (room : ℕ) → supported (v .journal) ≡ true → statusOf j (save room) ≡ FileCorruptError
-  unfolding saveAs saveCheck
-  save-corrupt room e =
-      let ids : Option Status = unless (allShown V2 (kept v (j .ring))) NotSupported in
-      let c : saveCheck V2 v (j .ring) ≡ some FileCorruptError =
-      ap₂ (λ (s : Bool) (o : Option Status). else (unless s InvalidDeviceRequest) (else o (else (unless (sound v (j .ring)) FileCorruptError) ids))) e (active-none v (u .active))
-      ∙ ap (λ (b : Bool). else (unless b FileCorruptError) ids) (u .unsound) in
-      ap (λ (o : Option Status). answer (guard o (imageReply (imageOf V2 (content v (j .ring))) room)) .status) c
+  save-corrupt : (form room : ℕ) → supported (v .journal) ≡ true → known (formVersion form) ≡ true → statusOf j (save form room) ≡ FileCorruptError
+  unfolding saveReply saveCheck
+  save-corrupt form room e k = ap (λ (b : Bool). answer (guard (unless b InvalidDeviceRequest) (saveAs (formVersion form) v (j .ring) room)) .status) e ∙ by (formVersion form) k
+    where
+      by : (o : Option Version) → known o ≡ true → answer (saveAs o v (j .ring) room) .status ≡ FileCorruptError
+      by none k = absurd (not-both k)
+      by (some f) k = rw (active-none v (u .active), u .unsound) refl
 
   delete-done : statusOf j (delete (v .id)) ≡ Success
   delete-done =
