@@ -54,9 +54,11 @@ extern "C" {
  * Since version 4 USN_BUFFER_OVERFLOW, which was a refusal, is a warning with 40 bytes of reply: a caller that drops what comes with a
  * status other than USN_SUCCESS must keep them. Since version 5 a name with a code unit 0, 0x2F or 0x5C is refused, in a ring or an image
  * from before too. Since version 6 an id has 128 bits and is a usn_id, in usn_change, usn_file, usn_record and usn_read_file; the upper
- * bytes of an id in a record of version 3, which had to be 0, may be any; and what version 2 cannot show is USN_NOT_SUPPORTED.
+ * bytes of an id in a record of version 3, which had to be 0, may be any; and what version 2 cannot show is USN_NOT_SUPPORTED. Since
+ * version 7 usn_save_journal is told the form of the image, usn_load_journal takes form 2 too, and usn_move_image moves an image from one
+ * form to the other.
  */
-#define LANHDUXE_VERSION 6
+#define LANHDUXE_VERSION 7
 
 /* ---- Statuses, by the numbers of [MS-ERREF] ---- */
 
@@ -295,39 +297,53 @@ static inline uint64_t usn_reply_position(const uint8_t *reply)
 /* ---- The journal's image ---- */
 
 /*
- * An image holds a journal's kept records and its id, so that a server that keeps it in a file has its journal again after a restart. In
- * form 1 the records stand back to back in version 2, oldest first. Behind them is the trailer, little-endian, of USN_IMAGE_TRAILER bytes:
+ * An image holds a journal's kept records and its id, so that a server that keeps it in a file has its journal again after a restart. The
+ * records stand back to back, oldest first: in form 1 in version 2, which has no room for wide ids, in form 2 in version 3, as the ring
+ * keeps them. Behind them is the trailer, little-endian, of USN_IMAGE_TRAILER bytes:
  *      0  u32  0, where a record would have its length
  *      4  u32  the bytes before the trailer
  *      8  u64  first, where the oldest record begins
  *     16  u64  the journal's id
  *     24  u32  the sum of all other 32-bit words of the image, modulo 2^32
- *     28  u32  the form's number, 1
+ *     28  u32  the form's number, USN_FORM_1 or USN_FORM_2
  * An empty journal's image is the trailer alone. An image that was cut at any byte is refused, and so is one with a 32-bit word changed.
  */
 
-/* Room enough for any image of a ring of so many bytes. */
+#define USN_FORM_1 1
+#define USN_FORM_2 2
+
+/* Room enough for any image, of either form, of a ring of so many bytes. */
 #define USN_IMAGE_ROOM(capacity) ((capacity) + USN_IMAGE_TRAILER)
 
 /*
- * Saves the journal: writes its image, of `count` bytes. What is posted later is not in it.
- * INVALID_DEVICE_REQUEST without support; JOURNAL_DELETE_IN_PROGRESS; JOURNAL_NOT_ACTIVE; FILE_CORRUPT_ERROR for a ring that is not
- * sound; NOT_SUPPORTED while a record with a wide file or parent id is kept; BUFFER_TOO_SMALL for an output shorter than the image.
+ * Saves the journal: writes its image in this form, of `count` bytes. What is posted later is not in it.
+ * INVALID_DEVICE_REQUEST without support; UNKNOWN_REVISION for another form than 1 and 2; JOURNAL_DELETE_IN_PROGRESS; JOURNAL_NOT_ACTIVE;
+ * FILE_CORRUPT_ERROR for a ring that is not sound; NOT_SUPPORTED in form 1 while a record with a wide file or parent id is kept;
+ * BUFFER_TOO_SMALL for an output shorter than the image.
  */
-usn_answer usn_save_journal(usn_volume volume, const uint8_t *ring, size_t ring_size, uint8_t *output, size_t output_size);
+usn_answer usn_save_journal(usn_volume volume, const uint8_t *ring, size_t ring_size, uint32_t form, uint8_t *output, size_t output_size);
 
 /*
- * Loads an image as a journal with a new id: leaves what its creation at the image's first position and posts of the image's records
+ * Loads an image of either form as a journal with a new id: leaves what its creation at the image's first position and posts of the image's records
  * would. The records' bytes are written to the ring and no others. Stores state, id, first and last; the `last` that was there does not
  * matter.
  * A reader of the saved journal may go on under the new id from a position up to the loaded `last`. One that stands past it has read what
  * was posted after the save, and must begin anew: these positions are given out again, to other records.
  * INVALID_DEVICE_REQUEST without support; JOURNAL_DELETE_IN_PROGRESS; INVALID_PARAMETER if active; UNKNOWN_REVISION for
- * USN_IMAGE_TRAILER bytes or more whose last four are not the number 1; FILE_CORRUPT_ERROR for what is no image, a wrong capacity, or a
+ * USN_IMAGE_TRAILER bytes or more whose last four are neither the number 1 nor 2; FILE_CORRUPT_ERROR for what is no image, a wrong capacity, or a
  * ring of another length; INVALID_PARAMETER for an id that is 0, the image's or the last one used; DISK_FULL if the records span more
  * than the capacity.
  */
 uint32_t usn_load_journal(usn_volume *volume, uint8_t *ring, size_t ring_size, const uint8_t *image, size_t image_size, uint64_t id);
+
+/*
+ * Moves an image from this form to the other, without a journal: from 1 writes form 2, from 2 writes form 1. The same records with the same
+ * Usns, first position and id; length, sum and form anew. Moving it back writes the first bytes again.
+ * UNKNOWN_REVISION if `from` is neither 1 nor 2, or not the form in the last four bytes of USN_IMAGE_TRAILER bytes or more;
+ * FILE_CORRUPT_ERROR for what is no image; NOT_SUPPORTED from form 2 with a wide file or parent id in any record; BUFFER_TOO_SMALL for an
+ * output shorter than the new image.
+ */
+usn_answer usn_move_image(const uint8_t *image, size_t image_size, uint32_t from, uint8_t *output, size_t output_size);
 
 /* ---- Controls on one file ---- */
 

@@ -67,7 +67,8 @@ static void try_ids(void)
         TRY(record.status == USN_SUCCESS && record.version == 3);
         TRY(memcmp(&record.file, &changes[i].file, sizeof record.file) == 0);
         TRY(memcmp(&record.parent, &changes[i].parent, sizeof record.parent) == 0);
-        TRY(usn_save_journal(volume, ring, sizeof ring, image, sizeof image).status == (i == 0 ? USN_SUCCESS : USN_NOT_SUPPORTED));
+        TRY(usn_save_journal(volume, ring, sizeof ring, USN_FORM_1, image, sizeof image).status == (i == 0 ? USN_SUCCESS : USN_NOT_SUPPORTED));
+        TRY(usn_save_journal(volume, ring, sizeof ring, USN_FORM_2, image, sizeof image).status == USN_SUCCESS);
     }
     TRY(usn_read_file(volume, file, narrow, NULL, 0, NULL, 0, NULL, 0, output, 64).status == USN_NOT_SUPPORTED);
     file.id = narrow;
@@ -121,7 +122,7 @@ static void try_states_and_limits(void)
 
 static void try_images(void)
 {
-    static uint8_t ring[USN_CAPACITY_MAX], image[USN_IMAGE_ROOM(sizeof ring)], name[USN_NAME_MAX];
+    static uint8_t ring[USN_CAPACITY_MAX], image[USN_IMAGE_ROOM(sizeof ring)], newer[sizeof image], name[USN_NAME_MAX];
     usn_volume volume = volume_of(sizeof ring, 0);
     usn_change change = { usn_id_of(5), usn_id_of(2), 0, 1, 0, 0, 0 };
     usn_answer saved;
@@ -129,13 +130,17 @@ static void try_images(void)
     memset(name, 'a', sizeof name);
 
     TRY(usn_create(&volume, 7) == USN_SUCCESS);
-    TRY(usn_save_journal(volume, ring, sizeof ring, image, USN_IMAGE_TRAILER - 1).status == USN_BUFFER_TOO_SMALL);
-    TRY(usn_save_journal(volume, ring, sizeof ring, image, USN_IMAGE_TRAILER).count == USN_IMAGE_TRAILER);
+    TRY(usn_save_journal(volume, ring, sizeof ring, USN_FORM_2, image, USN_IMAGE_TRAILER - 1).status == USN_BUFFER_TOO_SMALL);
+    TRY(usn_save_journal(volume, ring, sizeof ring, USN_FORM_2, image, USN_IMAGE_TRAILER).count == USN_IMAGE_TRAILER);
     /* the last of these drops the first record */
     for (int posts = 0; posts < 111; posts++)
         TRY(usn_post(&volume, ring, sizeof ring, change, name, sizeof name, &usn) == USN_SUCCESS);
     TRY(volume.first == 592);
-    saved = usn_save_journal(volume, ring, sizeof ring, image, sizeof image);
+    saved = usn_save_journal(volume, ring, sizeof ring, USN_FORM_2, newer, sizeof newer);
+    TRY(saved.status == USN_SUCCESS && saved.count == 110 * 592 + USN_IMAGE_TRAILER);
+    TRY(usn_save_journal(volume, ring, sizeof ring, 3, image, sizeof image).status == USN_UNKNOWN_REVISION);
+    TRY(usn_move_image(newer, saved.count, USN_FORM_1, image, sizeof image).status == USN_UNKNOWN_REVISION);
+    saved = usn_move_image(newer, saved.count, USN_FORM_2, image, sizeof image);
     TRY(saved.status == USN_SUCCESS && saved.count == 110 * 576 + USN_IMAGE_TRAILER);
     volume = volume_of(sizeof ring, 0);
     TRY(usn_load_journal(&volume, ring, sizeof ring, image, USN_IMAGE_TRAILER - 1, 8) == USN_FILE_CORRUPT_ERROR);

@@ -104,19 +104,22 @@ static void ask_file(const usn_volume *volume)
 
 int main(void)
 {
-    static uint8_t ring[CAPACITY], image[USN_IMAGE_ROOM(CAPACITY)];
+    static uint8_t ring[CAPACITY], older[USN_IMAGE_ROOM(CAPACITY)], image[USN_IMAGE_ROOM(CAPACITY)];
     usn_volume volume = { .usn = 1, .regions = 1, .reparse = 1, .points = 1, .journal = 1, .capacity = CAPACITY };
     expect("usn_create", usn_create(&volume, ID));
     post_changes(&volume, ring);
     read_changes(&volume, ring);
     ask_file(&volume);
-    usn_answer saved = usn_save_journal(volume, ring, CAPACITY, image, sizeof image);
+    usn_answer saved = usn_save_journal(volume, ring, CAPACITY, USN_FORM_1, older, sizeof older);
     expect("usn_save_journal", saved.status);
-    printf("saved, %" PRIu64 " bytes\n", saved.count);
+    printf("saved in form 1, %" PRIu64 " bytes\n", saved.count);
+    usn_answer moved = usn_move_image(older, saved.count, USN_FORM_1, image, sizeof image);
+    expect("usn_move_image", moved.status);
+    printf("moved to form 2, %" PRIu64 " bytes\n", moved.count);
     expect("usn_delete", usn_delete(&volume, ID));
     expect("usn_finish", usn_finish(&volume));
     printf("deleted, LastUsn %" PRIu64 "\n", volume.last);
-    expect("usn_load_journal", usn_load_journal(&volume, ring, CAPACITY, image, saved.count, NEXT_ID));
+    expect("usn_load_journal", usn_load_journal(&volume, ring, CAPACITY, image, moved.count, NEXT_ID));
     printf("loaded with id %" PRIu64 ", first %" PRIu64 ", LastUsn %" PRIu64 "\n", volume.id, volume.first, volume.last);
     return 0;
 }

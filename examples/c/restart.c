@@ -22,7 +22,7 @@ static int write_whole(int file, size_t size)
 /* A fresh file gets the name only when it is whole and on the disk: a kill or a loss of power leaves the image before, or this one. */
 int save(int folder)
 {
-    usn_answer saved = usn_save_journal(volume, ring, sizeof ring, image, sizeof image);
+    usn_answer saved = usn_save_journal(volume, ring, sizeof ring, USN_FORM_2, image, sizeof image);
     if (saved.status != USN_SUCCESS)
         return 0;
     int file = openat(folder, "journal.new", O_WRONLY | O_CREAT | O_TRUNC, 0600);

@@ -22,6 +22,9 @@ const CAPACITY: usize = 4096;
 
 const ROOM: usize = CAPACITY + 32;
 
+// The form of the image: its records in version 2.
+const FORM: u32 = 1;
+
 // The changes before the power fails: the second file is written, and not closed.
 const BEFORE: usize = 5;
 
@@ -137,7 +140,7 @@ fn fetch(name: &[u8], image: &mut [u8]) -> usize
 // Saves the journal under a name.
 fn save(v: Volume, ring: &[u8], name: &[u8]) -> bool {
     let mut image = [0u8; ROOM];
-    let answer = image_save::save_journal(v, ring, &mut image);
+    let answer = image_save::save_journal(v, ring, FORM, &mut image);
     let n = answer.count;
     if n == 0 {
         print(b"refused\n");
