@@ -3,6 +3,9 @@ ghost use lib.ListN.{length};
 ghost use Prim.Native.Nat.{_*_, _≤_, _<_};
 use case_rows::print;
 use case_rows::print_number;
+use image_file::close;
+use image_file::remove;
+use image_file::store;
 use list_input::Input;
 use reply_walker::Walk;
 use status::Status;
@@ -36,20 +39,6 @@ const CLOSE: u32 = 0x8000_0000;
 
 // ---- The file.
 
-fn close(fd: i32) -> bool {
-    if libc::close(fd) < 0 {
-        os::fail(b"close");
-        return false;
-    }
-    true
-}
-
-fn remove(name: &[u8]) {
-    if os::unlink(name) < 0 {
-        os::fail(b"unlink");
-    }
-}
-
 // Takes a name in /tmp by an empty file, which the image is to replace: each run has a name of its own.
 fn take_name(name: &mut [u8]) -> bool {
     let fd = os::create_temp(name);
@@ -64,75 +53,15 @@ fn take_name(name: &mut [u8]) -> bool {
     true
 }
 
-// Writes the image, and waits until it is on the disk.
-fn write_flushed(fd: i32, image: &[u8]) -> bool {
-    if !io::write_all(fd, image) {
-        os::fail(b"write");
-        return false;
-    }
-    if libc::fsync(fd) < 0 {
-        os::fail(b"fsync");
-        return false;
-    }
-    true
-}
-
-// Gives the file `fresh` the name `to`.
-fn replace(fresh: &[u8], to: &[u8]) -> bool {
-    if os::rename(fresh, to) < 0 {
-        os::fail(b"rename");
-        return false;
-    }
-    true
-}
-
-// Closes the fresh file, and gives it the name `to` if it is whole.
-fn settle(fd: i32, whole: bool, fresh: &[u8], to: &[u8]) -> bool {
-    if !close(fd) {
-        return false;
-    }
-    if !whole {
-        return false;
-    }
-    replace(fresh, to)
-}
-
-// Stores the image under a name. A fresh file gets the name only when it is whole and on the disk: a loss of power leaves what
-// stood there, or the image. The folder is not flushed: it may still be what stood there.
-fn store(image: &[u8], name: &[u8]) -> bool {
-    let mut fresh = *b"/tmp/restarted_server.XXXXXX";
-    let fd = os::create_temp(&mut fresh);
-    if fd < 0 {
-        os::fail(b"create");
-        return false;
-    }
-    let whole = write_flushed(fd, image);
-    if !settle(fd, whole, &fresh, name) {
-        remove(&fresh);
-        return false;
-    }
-    true
-}
-
 // Reads the file into `image`, and says how many bytes it has; 0 if that failed.
 fn fetch(name: &[u8], image: &mut [u8]) -> usize
     ensures { λ r. ⌜ r ≤ length (now (image .entry)) ⌝ }
 {
-    let fd = os::open_read(name);
-    if fd < 0 {
-        os::fail(b"open");
-        return 0;
+    let input = image_file::fetch(name, image);
+    match input {
+        Input::Bytes(n) => n,
+        Input::Failed => 0,
     }
-    let input = list_input::read_all(fd, image);
-    let Input::Bytes(n) = input else {
-        os::fail(b"read");
-        close(fd);
-        return 0;
-    };
-    if !close(fd) {
-        return 0;
-    }
-    n
 }
 
 // ---- The server.

@@ -10,8 +10,8 @@ use Rattle.status.proofs.Replies.{count-fits}
 use Rattle.restarted_server.proofs.save.Statement.{statement}
 use Rattle.restarted_server.proofs.save.Tie as tie
 
-saved : (c : tie.After-save-journal) → c .save-journal .result .count ≤ length (c .save-journal .last .1 .1 .0)
-saved c = omega (arith, count-fits _ _ _ _ (c .save-journal .ensures) (c .save-journal .kept .1 .1 .0), c .save-journal .kept .1 .1 .0)
+saved : (c : tie.After-save-journal) → c .save-journal .result .count ≤ length (c .save-journal .last .1 .1 .1 .0)
+saved c = omega (arith, count-fits _ _ _ _ (c .save-journal .ensures) (c .save-journal .kept .1 .1 .1 .0), c .save-journal .kept .1 .1 .1 .0)
 
 array-share-prefix-image : tie.Need-array-share-prefix-image
 array-share-prefix-image c = saved (c .before .before)
