@@ -42,7 +42,7 @@ use Rattle.image_move.specs.Move.{otherVersion, fromCheck, movedReply, moveFrom
 use Rattle.image_load.specs.Load.{settled, fitCheck, imageCheck, loadCheck}
 use Rattle.history.specs.Calls.{Call, create, post, read, delete, finish, save, load, statusOf, next}
 use Rattle.refusals.proofs.Replies.{refutes, Fair, fair-give, fair-warn, fair-guard, fair-leb, fairs, fair-never}
-use Rattle.refusals.specs.Refusal.{isWarning, isRefusal, Control, readJournal, saveJournal, moveImage, readFile, readFileTable, queryRegions, getReparsePoint, listRecords, writeRecord, copyRecord, copyOlder, replyOf, usnAfter, Warned, Refusals}
+use Rattle.refusals.specs.Refusal.{isWarning, isRefusal, Control, readJournal, saveJournal, moveImage, readFile, readFileTable, queryRegions, getReparsePoint, listRecords, listImage, writeRecord, copyRecord, copyOlder, replyOf, usnAfter, Warned, Refusals}
 
 refusals-are-errors : (x : Status) → isRefusal x ≡ leb 0xC0000000 (number x)
 refusals-are-errors Success = refl
@@ -120,6 +120,7 @@ fair-control (queryRegions v f input) room =
     record { refused = p .refused; warned = λ h. record { volume = v; file = f; input = input; query = refl; short = p .warned h .0; count = p .warned h .1 } }
 fair-control (getReparsePoint v f bytes) room = search fairs depth 8
 fair-control (listRecords s) room = search fairs
+fair-control (listImage s) room = search fairs
 fair-control (writeRecord v f name) room = search fairs
 fair-control (copyRecord bytes) room = search fairs
 fair-control (copyOlder bytes) room = search fairs

@@ -15,6 +15,7 @@ use Rattle.file_record.specs.declared.FileRecord.{FileRecord}
 use Rattle.file_links.specs.declared.Link.{Link}
 use Rattle.record_writer.specs.Write.{writeReply, copyReply, olderReply}
 use Rattle.usn_listing.specs.Listing.{listReply}
+use Rattle.image_listing.specs.Listing.{listImageReply}
 use Rattle.journal_read.specs.Read.{readReply}
 use Rattle.image_save.specs.Save.{saveReply}
 use Rattle.image_move.specs.Move.{moveReply}
@@ -53,6 +54,8 @@ pub data Control : Type 0 where
   getReparsePoint : Volume → FileRecord → List ℕ → Control
   -- a reply of the journal
   listRecords : List ℕ → Control
+  -- an image
+  listImage : List ℕ → Control
   -- version, fields, name
   writeRecord : Version → Fields → List ℕ → Control
   -- a record's own bytes, as they are or in version 2
@@ -69,6 +72,7 @@ replyOf (readFileTable v f parent pool places lengths shorts input) room = table
 replyOf (queryRegions v f input) room = regionsReply v f input room
 replyOf (getReparsePoint v f bytes) room = reparseReply v f bytes room
 replyOf (listRecords s) room = listReply s room
+replyOf (listImage s) room = listImageReply s room
 replyOf (writeRecord v f name) room = writeReply v f name room
 replyOf (copyRecord bytes) room = copyReply bytes room
 replyOf (copyOlder bytes) room = olderReply bytes room
