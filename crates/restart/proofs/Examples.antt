@@ -27,7 +27,8 @@ use Rattle.journal.specs.Boundary.{oldest}
 use Rattle.journal_post.specs.Post.{postedName, postCheck, verdict, postedVolume, postedRing}
 use Rattle.journal_post.specs.Posts.{Journal, Posting}
 use Rattle.image.specs.Image.{Image, wordsIn, wordSum, sumOf, sealed, imageOf, goodTrailer, allOf, lastFrom, fitsRing, readImage}
-use Rattle.image.proofs.Examples.{oneImage, oneBytes, one-stored, one-bytes}
+use Rattle.image.proofs.Examples.{oneImage, oneBytes, one-stored, one-bytes, newerBytes, newer-bytes}
+use Rattle.image_move.proofs.Examples.{one-up}
 use Rattle.image.specs.Forms.{formVersion, formCheck}
 use Rattle.image_writer.specs.Write.{imageReply}
 use Rattle.image_save.specs.Save.{saveCheck, saveReply}
@@ -70,6 +71,11 @@ pub one-saved : saveReply saved ring 1 96 ≡ give Success oneBytes
 unfolding ring saveReply saveCheck formVersion imageReply sound goodMarks goodCapacity goodPosition kept keptBytes rotated records recordsIn parse parseAs accepted goodName goodUnits goodUnit layout encode decode le unle total begins chained keeps imageOf sealed sumOf wordSum wordsIn joined allZero allShown
 one-saved = refl
 
+-- and in form 2
+pub newer-saved : saveReply saved ring 2 112 ≡ give Success newerBytes
+unfolding ring saveReply saveCheck formVersion imageReply sound goodMarks goodCapacity goodPosition kept keptBytes rotated records recordsIn parse parseAs accepted goodName goodUnits goodUnit layout encode decode le unle total begins chained keeps imageOf sealed sumOf wordSum wordsIn joined allZero allShown
+newer-saved = refl
+
 typed : TypedJournal saved ring
 unfolding ring
 typed = (are-bytes ring refl, lit< tt)
@@ -98,6 +104,9 @@ ready =
 
 pub one-again : Again saved ring 8 (loadOutcome idle other oneBytes 8) (loadRing idle other oneBytes 8)
 one-again = restart .again saved ring oneBytes typed (1, 96, one-saved) idle other 8 ready
+
+pub newer-again : Again saved ring 8 (loadOutcome idle other newerBytes 8) (loadRing idle other newerBytes 8)
+newer-again = restart .again saved ring newerBytes typed (2, 112, newer-saved) idle other 8 ready
 
 -- the volume record and the ring that the load leaves there
 abbrev pub loadedVolume : Volume
@@ -178,6 +187,10 @@ is-image = image.saved saved ring typed (1, 96, one-saved)
 
 pub one-cut : NeverTaken (take 95 oneBytes)
 one-cut = restart .cut oneBytes one-bytes is-image 95 (lit< tt)
+
+-- an image that a move has written
+pub newer-cut : NeverTaken (take 111 newerBytes)
+newer-cut = restart .cut newerBytes newer-bytes (image.moved 1 oneBytes one-bytes (112, one-up)) 111 (lit< tt)
 
 -- another file id
 abbrev pub renamed : List ℕ
