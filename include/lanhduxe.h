@@ -341,7 +341,7 @@ uint32_t usn_load_journal(usn_volume *volume, uint8_t *ring, size_t ring_size, c
  * Usns, first position and id; length, sum and form anew. Moving it back writes the first bytes again.
  * UNKNOWN_REVISION if `from` is neither 1 nor 2, or not the form in the last four bytes of USN_IMAGE_TRAILER bytes or more;
  * FILE_CORRUPT_ERROR for what is no image; NOT_SUPPORTED from form 2 with a wide file or parent id in any record; BUFFER_TOO_SMALL for an
- * output shorter than the new image.
+ * output shorter than the new image, for which USN_IMAGE_ROOM(USN_CAPACITY_MAX) is always enough.
  */
 usn_answer usn_move_image(const uint8_t *image, size_t image_size, uint32_t from, uint8_t *output, size_t output_size);
 

@@ -6,7 +6,8 @@
 
 #include "restart.h"
 
-static uint8_t image[USN_IMAGE_ROOM(sizeof ring)];
+/* Room for the image of any ring, and a byte more: what fills it is none. */
+static uint8_t image[USN_IMAGE_ROOM(USN_CAPACITY_MAX) + 1];
 
 static int write_whole(int file, size_t size)
 {
@@ -35,8 +36,8 @@ int save(int folder)
 }
 
 /*
- * Reads the saved image, and gives its size: 0 if there is none, -1 if it cannot be read now. Of a file with more bytes a part is read,
- * which is refused.
+ * Reads the saved image, and gives its size: 0 if there is none, -1 if it cannot be read now. Of a file that is longer than any image a
+ * part is read, which is refused.
  */
 static ssize_t read_image(int folder)
 {

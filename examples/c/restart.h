@@ -19,8 +19,8 @@ void tell_services(uint64_t id, uint64_t last);
 
 /*
  * Saves the journal in an open folder: after its creation and every post, and before the file itself is changed, so that no change
- * outlasts its record. 0 if that failed, as it does while a record with a wide id is kept; then the change is refused. One at a time, from
- * the call to its return, so that no older image replaces a newer one.
+ * outlasts its record. 0 if that failed; then the change is refused. One at a time, from the call to its return, so that no older image
+ * replaces a newer one.
  */
 int save(int folder);
 

@@ -8,7 +8,9 @@ use list_input::Input;
 // A name with `.XXXXXX` behind it.
 const ROOM: usize = PATH_MAX + 7;
 
-pub fn close(fd: i32) -> bool {
+pub fn close(fd: i32) -> bool
+    ensures { λ _. ⊤ₛ }
+{
     if libc::close(fd) < 0 {
         os::fail(b"close");
         return false;
@@ -85,7 +87,9 @@ fn name_length(name: &[u8]) -> usize
 
 // Stores the image under a name. A fresh file beside it gets the name only when it is whole and on the disk: a loss of power leaves
 // what stood there, or the image. The folder is not flushed: it may still be what stood there.
-pub fn store(image: &[u8], name: &[u8]) -> bool {
+pub fn store(image: &[u8], name: &[u8]) -> bool
+    ensures { λ _. ⊤ₛ }
+{
     let mut fresh = [0u8; ROOM];
     let n = name_length(name);
     le::copy(&mut fresh, &name[..n]);
