@@ -152,9 +152,14 @@ fn form_asked() -> u32 {
     form_from(&word[..n])
 }
 
+// A name that is empty, or too long for any file, is read as an empty one.
 fn list_asked() {
     let mut name = io::buffer();
     let n = os::arg(1, &mut name);
+    if n == 0 {
+        say_usage();
+        return;
+    }
     list(&name[..n]);
 }
 
@@ -168,6 +173,10 @@ fn move_asked() {
     let n = os::arg(1, &mut name);
     let mut new = io::buffer();
     let m = os::arg(3, &mut new);
+    if n == 0 || m == 0 {
+        say_usage();
+        return;
+    }
     move_file(&name[..n], form, &new[..m]);
 }
 
