@@ -27,7 +27,7 @@ use Rattle.image.proofs.RoundTrip.{Storable}
 use Rattle.image.proofs.Cut as cutting
 use Rattle.image.proofs.OneWord.{one-word}
 use Rattle.image.proofs.Saving.{kept-storable, kept-end}
-use Rattle.image.proofs.Forms.{none-some, read-stored, stored-read, stored-none}
+use Rattle.image.proofs.Forms.{none-some, read-stored, stored-read, form-passes, stored-none}
 use Rattle.image_judge.specs.Steps.{marksOf}
 use Rattle.image_save.specs.Save.{content}
 use Rattle.image_save.proofs.Saving.{saved-image, saved-back}
@@ -96,6 +96,24 @@ word-never s t k b c e d =
     none-taken t
     (λ w. one-word (r .0) w k s t (i .0) b c (sym (d .size)) (subst (λ (x : ℕ). take x s ≡ take x t) m (sym (d .front)))
     (subst (λ (x : ℕ). drop (x + 4) s ≡ drop (x + 4) t) m (sym (d .back))) (λ q. d .other (sym q)) (r .2))
+
+-- ---- moved
+
+-- what holds the same loads the same
+same-check : (v : Volume) (n : ℕ) (s t : List ℕ) (id : ℕ) (i : Image) → stored s ≡ some i → stored t ≡ some i → loadCheck v n t id ≡ loadCheck v n s id
+unfolding loadCheck
+same-check v n s t id i e k = rw (form-passes s i e, form-passes t i k, e, k) refl
+
+moved-loads : (from : ℕ) (s t : List ℕ) → Bytes s → MovedTo from s t → (v : Volume) (ring : List ℕ) (id : ℕ)
+    → (loadOutcome v ring t id ≡ loadOutcome v ring s id) × (loadRing v ring t id ≡ loadRing v ring s id)
+moved-loads from s t b m v ring id =
+    let k = moving.moves .keeps from s t b m in
+    let c = same-check v (length ring) s t id (k .image) (k .held .0) (k .held .1) in
+    let h : stored t ≡ stored s = k .held .1 ∙ sym (k .held .0) in
+    let j : Journal = record { volume = v; ring = ring } in (
+      ap₂ (λ (x : Option Status) (o : Option Image). performed x v (restored j id o .volume)) c h,
+      ap₂ (λ (x : Option Status) (o : Option Image). settled x ring (restored j id o .ring)) c h,
+    )
 
 -- ---- there again
 
@@ -170,4 +188,4 @@ module _ (v : Volume) (ring s : List ℕ) (t : TypedJournal v ring) (a : SavedAs
   again k = loaded-again (passed k)
 
 pub restart : Restart
-restart = record { cut = cut-never; word = word-never; again = again }
+restart = record { cut = cut-never; word = word-never; moved = moved-loads; again = again }

@@ -78,6 +78,9 @@ pub record Restart : Type 0 where
   pub cut : (s : List ℕ) → Bytes s → IsImage s → (n : ℕ) → n < length s → NeverTaken (take n s)
   -- nor is an image with one word changed
   pub word : (s t : List ℕ) (k : ℕ) → Bytes s → Bytes t → IsImage s → OtherWord k s t → NeverTaken t
+  -- an image that was moved loads as it did before, wherever that is: the same status, volume record and ring
+  pub moved : (from : ℕ) (s t : List ℕ) → Bytes s → MovedTo from s t → (v : Volume) (ring : List ℕ) (id : ℕ)
+      → (loadOutcome v ring t id ≡ loadOutcome v ring s id) × (loadRing v ring t id ≡ loadRing v ring s id)
   -- an image that saving wrote brings back first position, LastUsn and the kept records
   pub again : (v : Volume) (ring s : List ℕ) → TypedJournal v ring → SavedAs v ring s → (w : Volume) (other : List ℕ) (id : ℕ) → Ready v w other id
       → Again v ring id (loadOutcome w other s id) (loadRing w other s id)
