@@ -64,6 +64,8 @@ static int create(int folder, uint64_t id)
 
 int start(int folder)
 {
+    if (volume.capacity != sizeof ring) /* a load would refuse that, which says nothing of the image */
+        return 0;
     ssize_t size = read_image(folder);
     if (size < 0)
         return 0;

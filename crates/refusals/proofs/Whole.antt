@@ -34,11 +34,11 @@ use Rattle.file_regions.proofs.Checked.{few}
 use Rattle.reparse_point.specs.Reparse.{reparseCheck, reparseReply}
 use Rattle.journal_post.specs.Posts.{Journal}
 use Rattle.image.specs.Image.{Image}
-use Rattle.image.specs.Image.{Image, readImage}
+use Rattle.image.specs.Image.{Image}
 use Rattle.image.specs.Forms.{formVersion, formCheck}
 use Rattle.image_writer.specs.Write.{imageReply}
 use Rattle.image_save.specs.Save.{saveCheck, saveAs, saveReply}
-use Rattle.image_move.specs.Move.{otherVersion, sameFormCheck, movedReply, moveFrom, moveReply}
+use Rattle.image_move.specs.Move.{sameFormCheck, movedReply, moveFrom, moveReply}
 use Rattle.image_load.specs.Load.{settled, fitCheck, imageCheck, loadCheck}
 use Rattle.history.specs.Calls.{Call, create, post, read, delete, finish, save, load, statusOf, next}
 use Rattle.refusals.proofs.Replies.{refutes, Fair, fair-give, fair-warn, fair-guard, fair-leb, fairs, fair-never}

@@ -192,6 +192,10 @@ one-cut = restart .cut oneBytes one-bytes is-image 95 (lit< tt)
 pub newer-cut : NeverTaken (take 111 newerBytes)
 newer-cut = restart .cut newerBytes newer-bytes (image.moved 1 oneBytes one-bytes (112, one-up)) 111 (lit< tt)
 
+-- and it loads as the first one
+pub one-moved : (loadOutcome idle other newerBytes 8 ≡ loadOutcome idle other oneBytes 8) × (loadRing idle other newerBytes 8 ≡ loadRing idle other oneBytes 8)
+one-moved = restart .moved 1 oneBytes newerBytes one-bytes (112, one-up) idle other 8
+
 -- another file id
 abbrev pub renamed : List ℕ
 renamed = set oneBytes 8 9

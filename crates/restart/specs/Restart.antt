@@ -1,5 +1,5 @@
--- What a restart keeps: an image that is cut short or has one word changed is never loaded nor moved, and a journal that was saved is there
--- again. All of it holds of both forms.
+-- What a restart keeps: an image that is cut short or has one word changed is never loaded nor moved, a moved image loads as it did before, and
+-- a journal that was saved is there again. All of it holds of both forms.
 use mathlib.Core.Path.{_≡_}
 use mathlib.Core.Bool.{true, false}
 use mathlib.Core.List.{List}

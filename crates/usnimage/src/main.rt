@@ -152,7 +152,7 @@ fn form_asked() -> u32 {
     form_from(&word[..n])
 }
 
-// A name that is empty, or too long for any file, is read as an empty one.
+// A name that is too long for any file is read as an empty one, which names none.
 fn list_asked() {
     let mut name = io::buffer();
     let n = os::arg(1, &mut name);
