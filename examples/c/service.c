@@ -1,6 +1,7 @@
 /*
  * A server with a ring of 1,024 bytes that saves its journal by restart.c, and a service that follows it by follow.c: once in time, once
- * too late, once after the journal was deleted and created anew, once after a restart, and once after one that found half an image.
+ * too late, once after the journal was deleted and created anew, once after a restart, once after one that found half an image, and once
+ * after one that found an image with more bytes behind it. Last, starts that must leave the image where it is.
  */
 #define _POSIX_C_SOURCE 200809L
 #include <fcntl.h>
@@ -37,15 +38,29 @@ static void want(int done, const char *what)
     }
 }
 
+static void post_name(uint64_t file, const uint8_t *letters, size_t size)
+{
+    usn_change change = { .file = usn_id_of(file), .parent = usn_id_of(5), .reason = 0x80000002 };
+    uint64_t usn = 0;
+    expect(usn_post(&volume, ring, sizeof ring, change, letters, size, &usn));
+    want(save(folder), "save");
+}
+
 static void post(uint64_t file, int times)
 {
-    for (int i = 0; i < times; i++) {
-        usn_change change = { .file = usn_id_of(file), .parent = usn_id_of(5), .reason = 0x80000002 };
-        uint64_t usn = 0;
-        expect(usn_post(&volume, ring, sizeof ring, change, (const uint8_t *)"a", 2, &usn));
-        want(save(folder), "save");
-    }
+    for (int i = 0; i < times; i++)
+        post_name(file, (const uint8_t *)"a", 2);
     printf("posted %d\n", times);
+}
+
+/* The journal is deleted, and created anew. */
+static void create_anew(void)
+{
+    expect(usn_delete(&volume, volume.id));
+    expect(usn_finish(&volume));
+    expect(usn_create(&volume, new_id()));
+    want(save(folder), "save");
+    printf("created anew\n");
 }
 
 /* A process begins: the record and the ring of the one before are gone. */
@@ -55,6 +70,47 @@ static void restart(void)
     memset(ring, 0, sizeof ring);
     want(start(folder), "start");
     printf("started with journal %" PRIu64 ", LastUsn %" PRIu64 "\n", volume.id, volume.last);
+}
+
+/* Posts just as much as the ring holds, so that its image is as long as an image of it may be. */
+static void fill_ring(void)
+{
+    uint8_t letters[68];
+    memset(letters, 'a', sizeof letters);
+    create_anew();
+    post(46, 11);
+    post_name(46, letters, sizeof letters);
+    want(volume.last - volume.first == sizeof ring, "a full ring");
+}
+
+/* Puts bytes into the file of the image. */
+static void put_file(int flags, const uint8_t *bytes, size_t size)
+{
+    int file = openat(folder, "journal", O_WRONLY | flags);
+    want(file >= 0 && write(file, bytes, size) == (ssize_t)size && close(file) == 0, "journal");
+}
+
+/* The image of a journal whose records span more than this ring. */
+static void put_larger(void)
+{
+    static uint8_t larger[2 * USN_CAPACITY_MIN], image[USN_IMAGE_ROOM(sizeof larger)];
+    usn_volume other = { .journal = 1, .last = 8, .capacity = sizeof larger };
+    usn_change change = { .reason = 1 };
+    uint64_t usn = 0;
+    expect(usn_create(&other, new_id()));
+    for (int i = 0; i < 15; i++)
+        expect(usn_post(&other, larger, sizeof larger, change, (const uint8_t *)"a", 2, &usn));
+    usn_answer saved = usn_save_journal(other, larger, sizeof larger, USN_FORM_2, image, sizeof image);
+    expect(saved.status);
+    put_file(O_TRUNC, image, saved.count);
+}
+
+/* A start with a record of this capacity gives no journal, and leaves the image for a right one. */
+static void refuse_start(uint64_t capacity, const char *what)
+{
+    volume = (usn_volume){ .journal = 1, .capacity = capacity };
+    want(!start(folder) && faccessat(folder, "journal", F_OK, 0) == 0, what);
+    printf("%s: no journal, and the image is still there\n", what);
 }
 
 /* ---- What restart.c wants ---- */
@@ -114,11 +170,7 @@ int main(void)
     post(42, 14); /* the ring keeps twelve of them */
     expect(follow(&service));
 
-    expect(usn_delete(&volume, volume.id));
-    expect(usn_finish(&volume));
-    expect(usn_create(&volume, new_id()));
-    want(save(folder), "save");
-    printf("created anew\n");
+    create_anew();
     expect(follow(&service));
 
     post(43, 1);
@@ -134,6 +186,16 @@ int main(void)
     printf("cut the image\n");
     restart();
     expect(follow(&service));
+
+    fill_ring();
+    put_file(O_APPEND, ring, 7);
+    printf("put bytes behind the image\n");
+    restart();
+    expect(follow(&service));
+
+    refuse_start(2 * sizeof ring, "another capacity");
+    put_larger();
+    refuse_start(sizeof ring, "the image of a larger ring");
 
     want(unlinkat(folder, "journal.bad", 0) == 0 && unlinkat(folder, "journal", 0) == 0 && rmdir(name) == 0, name);
     return 0;
