@@ -38,7 +38,7 @@ use Rattle.image.specs.Image.{Image}
 use Rattle.image.specs.Forms.{formVersion, formCheck}
 use Rattle.image_writer.specs.Write.{imageReply}
 use Rattle.image_save.specs.Save.{saveCheck, saveAs, saveReply}
-use Rattle.image_move.specs.Move.{sameFormCheck, movedReply, moveFrom, moveReply}
+use Rattle.image_move.specs.Move.{movedReply, moveFrom, moveReply}
 use Rattle.image_load.specs.Load.{settled, fitCheck, imageCheck, loadCheck}
 use Rattle.history.specs.Calls.{Call, create, post, read, delete, finish, save, load, statusOf, next}
 use Rattle.refusals.proofs.Replies.{refutes, Fair, fair-give, fair-warn, fair-guard, fair-leb, fairs, fair-never}
@@ -86,7 +86,6 @@ fair-save {W = W} v ring form room = search (fairs, fair-form)
     fair-form (some f) = search (fairs, fair-image)
 
 fair-move : {W : ℕ → Type 0} (s : List ℕ) (from room : ℕ) → Fair W (moveReply from s room)
-unfolding sameFormCheck
 fair-move {W = W} s from room = fair-form (formVersion from)
   where
     fair-held : (w : Version) (o : Option Image) → Fair W (movedReply w o room)
