@@ -1,25 +1,26 @@
 /*
- * The C interface of the library: a volume's change journal and four controls on it and on its files. docs/USING.md says how a
+ * The C interface of the library: a volume's change journal and six controls on it and on its files. docs/USING.md says how a
  * server works with it.
  *
  * Build the library with `rt staticlib lanhduxe` and link target/staticlib/liblanhduxe.a (x86-64 Linux). It calls no function but
  * memcpy and memset, allocates nothing and keeps nothing between calls.
  *
  * Memory. Every buffer is lent for the time of one call, as a pointer and a length; with a length of 0 the pointer may be NULL. The
- * pointers `volume` and `usn` must not be NULL. What a call may write (the ring of a post or a load, an output, *volume, *usn) must not
- * overlap anything else that is lent to it, and nobody else may use it meanwhile; nor may anyone change what the call reads. A struct
- * that is passed by value is only read.
+ * pointers `volume`, `usn` and `file` must not be NULL. What a call may write (the ring of a call that posts or loads, the store of a set,
+ * an output, *volume, *usn, *file) must not overlap anything else that is lent to it, and nobody else may use it meanwhile; nor may anyone
+ * change what the call reads. A struct that is passed by value is only read.
  *
  * Answers. USN_BUFFER_OVERFLOW is a warning: the reply holds a part of what was asked for. Only usn_query_file_regions gives it. Any
  * other status but USN_SUCCESS is a refusal: it reports 0 bytes and has changed no buffer and no record. With USN_SUCCESS or the
  * warning the output holds `count` bytes of reply, and its bytes behind them are as they were. Each call gives the first status that
  * applies, in the order listed with it.
  *
- * The volume record. Only create, delete, finish, post and load store anything in *volume, and of it only the fields that are named
- * with the call. Where such a call refuses or skips, it stores nothing there, not even what it found.
+ * The volume record. Only create, delete, finish, post, load, and setting or deleting a reparse point store anything in *volume, and of
+ * it only the fields that are named with the call. Where such a call refuses or its post is skipped, it stores nothing there, not even
+ * what it found. The same holds of *file where a call that may change it refuses.
  *
- * The ring. Post, read, save and load are lent a ring of `capacity` bytes, in which the byte at position p stands at p modulo the
- * capacity. It is sound if the capacity is right and the lent length equal to it, and from `first` to `last`, at most a capacity apart,
+ * The ring. Post, read, save, load, set and delete of a reparse point are lent a ring of `capacity` bytes, in which the byte at position p
+ * stands at p modulo the capacity. It is sound if the capacity is right and the lent length equal to it, and from `first` to `last`, at most a capacity apart,
  * there are whole and right records. What a ring holds does not matter to a load.
  *
  * Numbers. Replies and inputs are little-endian, laid out as [MS-FSCC] has them. A number of 64 bits is passed as its bit pattern;
@@ -56,9 +57,10 @@ extern "C" {
  * from before too. Since version 6 an id has 128 bits and is a usn_id, in usn_change, usn_file, usn_record and usn_read_file; the upper
  * bytes of an id in a record of version 3, which had to be 0, may be any; and what version 2 cannot show is USN_NOT_SUPPORTED. Since
  * version 7 usn_save_journal is told the form of the image, usn_load_journal takes form 2 too, and usn_move_image moves an image from one
- * form to the other.
+ * form to the other. Since version 8 usn_file has the length of the reparse data, usn_get_reparse_point is lent a store of USN_STORE_MIN
+ * bytes or more of which that length is the data, and usn_set_reparse_point and usn_delete_reparse_point change a file's reparse point.
  */
-#define LANHDUXE_VERSION 7
+#define LANHDUXE_VERSION 8
 
 /* ---- Statuses, by the numbers of [MS-ERREF] ---- */
 
@@ -72,7 +74,11 @@ extern "C" {
 #define USN_NOT_SUPPORTED              0xC00000BBu
 #define USN_FILE_CORRUPT_ERROR         0xC0000102u
 #define USN_NOT_A_REPARSE_POINT        0xC0000275u
+#define USN_IO_REPARSE_TAG_INVALID     0xC0000276u
+#define USN_IO_REPARSE_TAG_MISMATCH    0xC0000277u
+#define USN_IO_REPARSE_DATA_INVALID    0xC0000278u
 #define USN_VOLUME_NOT_UPGRADED        0xC000029Cu
+#define USN_REPARSE_ATTRIBUTE_CONFLICT 0xC00002B2u
 #define USN_JOURNAL_DELETE_IN_PROGRESS 0xC00002B7u
 #define USN_JOURNAL_NOT_ACTIVE         0xC00002B8u
 #define USN_JOURNAL_ENTRY_DELETED      0xC00002CFu
@@ -99,6 +105,8 @@ static inline int usn_is_refusal(uint32_t status)
 #define USN_POSITION_LIMIT UINT64_C(0x8000000000000000) /* 2^63, the first number that is no position and no Usn */
 #define USN_LIST_MAX       65536u                       /* bytes of a reply that usn_list_reply lists */
 #define USN_IMAGE_TRAILER  32u                          /* bytes of an image behind its records */
+#define USN_STORE_MIN      16376u                       /* bytes of a file's store, at least: room for any reparse data */
+#define USN_REPARSE_MAX    16384u                       /* bytes of a reparse point's header and data */
 
 /* ---- Records ---- */
 
@@ -106,7 +114,7 @@ static inline int usn_is_refusal(uint32_t status)
 typedef struct usn_volume {
     uint32_t usn;      /* usn_read_file */
     uint32_t regions;  /* usn_query_file_regions */
-    uint32_t reparse;  /* usn_get_reparse_point */
+    uint32_t reparse;  /* usn_get_reparse_point, usn_set_reparse_point, usn_delete_reparse_point */
     uint32_t points;   /* reparse points at all */
     uint32_t journal;  /* usn_post, usn_read_journal, usn_save_journal, usn_load_journal */
     uint32_t state;    /* one of USN_STATE_ */
@@ -141,6 +149,7 @@ typedef struct usn_file {
     uint32_t attributes; /* 0 is written as 0x80 */
     uint32_t tag;        /* the reparse tag, 0 for none; bit 31 says Microsoft's */
     uint8_t guid[16];    /* goes with a tag that is not Microsoft's */
+    uint64_t length;     /* of the reparse data: with a Microsoft tag at most 16,376, with another 16,360, with none 0 */
 } usn_file;
 
 /* One link of a file. */
@@ -376,13 +385,48 @@ usn_answer usn_query_file_regions(usn_volume volume, usn_file file, const uint8_
                                   uint8_t *output, size_t output_size);
 
 /*
- * Gives the file's reparse tag, the GUID if the tag is not Microsoft's, and as much of the data as fits (FSCTL_GET_REPARSE_POINT).
- * INVALID_DEVICE_REQUEST without support; VOLUME_NOT_UPGRADED without reparse points; FILE_CORRUPT_ERROR for data above 16,376
- * bytes (16,360 with a GUID) or without a tag; NOT_A_REPARSE_POINT for tag 0; BUFFER_TOO_SMALL below 8 bytes of output (24
- * with a GUID).
+ * A file's reparse point is its tag, and with it the GUID, where the tag is not Microsoft's, and data. The data is the first `length` bytes
+ * of the file's store, a buffer of USN_STORE_MIN bytes or more that the server keeps for it, with a reparse point or without. A store that
+ * is shorter, or a length that does not go with the tag, is a bad file record: FILE_CORRUPT_ERROR. What a control replies or is given is
+ * laid out as [MS-FSCC] has it: tag u32, length of the data u16, 0 u16; the GUID of 16 bytes, if the tag is not Microsoft's; the data. So
+ * the header has 8 bytes, or 24, and 24 with tag 0.
  */
-usn_answer usn_get_reparse_point(usn_volume volume, usn_file file, const uint8_t *data, size_t data_size,
+
+/*
+ * Gives the file's reparse tag, the GUID if the tag is not Microsoft's, and as much of the data as fits (FSCTL_GET_REPARSE_POINT).
+ * INVALID_DEVICE_REQUEST without support; VOLUME_NOT_UPGRADED without reparse points; FILE_CORRUPT_ERROR for a bad file record;
+ * NOT_A_REPARSE_POINT for tag 0; BUFFER_TOO_SMALL for an output shorter than the header.
+ */
+usn_answer usn_get_reparse_point(usn_volume volume, usn_file file, const uint8_t *store, size_t store_size,
                                  uint8_t *output, size_t output_size);
+
+/*
+ * Sets the file's reparse point to the one that the input has (FSCTL_SET_REPARSE_POINT), and posts the change. Where a point stands, it must
+ * have the same tag, and the same GUID, where the tag is not Microsoft's. Stores the file's tag, guid (zeroes with a Microsoft tag) and
+ * length, and the data at the start of the store, where no other byte is written. usn_get_reparse_point then replies the input's bytes, as
+ * many as fit.
+ * `change` and `name` are those of the post, as with usn_post, but for the reason, which is 0x00100000 whatever is given. Where the post is
+ * skipped, for no support of the journal or no active journal, the call succeeds all the same. Else it writes to the ring, and stores first
+ * and last, and the file's usn, as usn_post does; where the post is refused, so is the call, and nothing is changed.
+ * INVALID_DEVICE_REQUEST without support; VOLUME_NOT_UPGRADED without reparse points; FILE_CORRUPT_ERROR for a bad file record;
+ * IO_REPARSE_DATA_INVALID for an input that is shorter than its header, not as long as header and data together, above USN_REPARSE_MAX bytes,
+ * or with anything but 0 behind the length; IO_REPARSE_TAG_INVALID for tag 0; IO_REPARSE_TAG_MISMATCH where another tag stands;
+ * REPARSE_ATTRIBUTE_CONFLICT where the same tag, not Microsoft's, stands with another GUID; then what usn_post refuses:
+ * FILE_CORRUPT_ERROR for a ring that is not sound, INVALID_PARAMETER for the name, DISK_FULL.
+ */
+uint32_t usn_set_reparse_point(usn_volume *volume, uint8_t *ring, size_t ring_size, usn_file *file, uint8_t *store, size_t store_size,
+                               usn_change change, const uint8_t *name, size_t name_size, const uint8_t *input, size_t input_size);
+
+/*
+ * Deletes the file's reparse point (FSCTL_DELETE_REPARSE_POINT), and posts the change as usn_set_reparse_point does. The input is the header
+ * of the point that stands, with the length 0. Stores 0 in the file's tag, guid and length; the store stays as it is.
+ * INVALID_DEVICE_REQUEST without support; VOLUME_NOT_UPGRADED without reparse points; FILE_CORRUPT_ERROR for a bad file record;
+ * IO_REPARSE_DATA_INVALID for an input as usn_set_reparse_point refuses it, or with a length other than 0; IO_REPARSE_TAG_INVALID for tag 0;
+ * NOT_A_REPARSE_POINT for a file without one; IO_REPARSE_TAG_MISMATCH where another tag stands; REPARSE_ATTRIBUTE_CONFLICT where the same
+ * tag, not Microsoft's, stands with another GUID; then what usn_post refuses, as above.
+ */
+uint32_t usn_delete_reparse_point(usn_volume *volume, uint8_t *ring, size_t ring_size, usn_file *file, const uint8_t *store, size_t store_size,
+                                  usn_change change, const uint8_t *name, size_t name_size, const uint8_t *input, size_t input_size);
 
 /* ---- Reading a reply ---- */
 

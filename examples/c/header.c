@@ -43,7 +43,7 @@ static void try_ids(void)
     usn_id narrow = usn_id_of(0x8807060504030201), wide = { { 0, 0, 0, 0, 0, 0, 0, 0, 1 } };
     usn_change changes[3] = { { narrow, narrow, 0, 1, 0, 0, 0 }, { wide, narrow, 0, 2, 0, 0, 0 }, { narrow, wide, 0, 4, 0, 0, 0 } };
     usn_volume volume = { 1, 0, 0, 0, 1, USN_STATE_IDLE, 0, 0, 0, sizeof ring };
-    usn_file file = { wide, 0, 0, 0, 0, 0, { 0 } };
+    usn_file file = { wide, 0, 0, 0, 0, 0, { 0 }, 0 };
     uint8_t input[USN_READ_INPUT_SIZE];
     uint64_t usn = 0;
     TRY(memcmp(narrow.bytes, expected, sizeof expected) == 0);
@@ -161,7 +161,11 @@ static void try_statuses(void)
         { USN_NOT_SUPPORTED, 1 },
         { USN_FILE_CORRUPT_ERROR, 1 },
         { USN_NOT_A_REPARSE_POINT, 1 },
+        { USN_IO_REPARSE_TAG_INVALID, 1 },
+        { USN_IO_REPARSE_TAG_MISMATCH, 1 },
+        { USN_IO_REPARSE_DATA_INVALID, 1 },
         { USN_VOLUME_NOT_UPGRADED, 1 },
+        { USN_REPARSE_ATTRIBUTE_CONFLICT, 1 },
         { USN_JOURNAL_DELETE_IN_PROGRESS, 1 },
         { USN_JOURNAL_NOT_ACTIVE, 1 },
         { USN_JOURNAL_ENTRY_DELETED, 1 },
@@ -174,7 +178,7 @@ static void try_regions(void)
 {
     uint8_t output[USN_REGIONS_ROOM];
     usn_volume volume = { 0, 1, 0, 0, 0, USN_STATE_IDLE, 0, 0, 0, 0 };
-    usn_file file = { usn_id_of(0), 0, 100, 60, 0, 0, { 0 } };
+    usn_file file = { usn_id_of(0), 0, 100, 60, 0, 0, { 0 }, 0 };
     usn_answer whole = usn_query_file_regions(volume, file, NULL, 0, output, USN_REGIONS_ROOM);
     usn_answer part = usn_query_file_regions(volume, file, NULL, 0, output, USN_REGIONS_ROOM - 1);
     usn_answer none = usn_query_file_regions(volume, file, NULL, 0, output, 39);
@@ -182,6 +186,37 @@ static void try_regions(void)
     TRY(whole.status == USN_SUCCESS && whole.count == USN_REGIONS_ROOM);
     TRY(part.status == USN_BUFFER_OVERFLOW && part.count == 40);
     TRY(none.status == USN_BUFFER_TOO_SMALL && none.count == 0);
+}
+
+/* The shortest store and the longest point: a Microsoft tag with as much data as the store has room for. */
+static void try_points(void)
+{
+    static uint8_t store[USN_STORE_MIN], input[USN_REPARSE_MAX + 1], output[USN_REPARSE_MAX];
+    usn_volume volume = { 0, 0, 1, 1, 0, USN_STATE_IDLE, 0, 0, 0, 0 };
+    usn_file file = { usn_id_of(5), 0, 0, 0, 0, 0, { 0 }, 0 };
+    usn_change change = { usn_id_of(5), usn_id_of(2), 0, 0, 0, 0, 0 };
+    memset(input, 'a', sizeof input);
+    usn_put_number(input, 0xA000000C, 8);
+
+    usn_put_number(input + 4, USN_STORE_MIN + 1, 2);
+    TRY(usn_set_reparse_point(&volume, NULL, 0, &file, store, sizeof store, change, NULL, 0, input, USN_REPARSE_MAX + 1)
+        == USN_IO_REPARSE_DATA_INVALID);
+    usn_put_number(input + 4, USN_STORE_MIN, 2);
+    TRY(usn_set_reparse_point(&volume, NULL, 0, &file, store, USN_STORE_MIN - 1, change, NULL, 0, input, USN_REPARSE_MAX)
+        == USN_FILE_CORRUPT_ERROR);
+    TRY(file.tag == 0 && store[0] == 0);
+    TRY(usn_set_reparse_point(&volume, NULL, 0, &file, store, sizeof store, change, NULL, 0, input, USN_REPARSE_MAX) == USN_SUCCESS);
+    TRY(file.tag == 0xA000000C && file.length == USN_STORE_MIN && file.usn == 0);
+
+    TRY(usn_get_reparse_point(volume, file, store, USN_STORE_MIN - 1, output, sizeof output).status == USN_FILE_CORRUPT_ERROR);
+    TRY(usn_get_reparse_point(volume, file, store, sizeof store, output, sizeof output).count == USN_REPARSE_MAX);
+    TRY(memcmp(output, input, USN_REPARSE_MAX) == 0);
+
+    usn_put_number(input + 4, 0, 2);
+    TRY(usn_delete_reparse_point(&volume, NULL, 0, &file, store, USN_STORE_MIN - 1, change, NULL, 0, input, 8) == USN_FILE_CORRUPT_ERROR);
+    TRY(usn_delete_reparse_point(&volume, NULL, 0, &file, store, sizeof store, change, NULL, 0, input, 8) == USN_SUCCESS);
+    TRY(file.tag == 0 && file.length == 0);
+    TRY(usn_get_reparse_point(volume, file, store, sizeof store, output, sizeof output).status == USN_NOT_A_REPARSE_POINT);
 }
 
 static void try_listing(void)
@@ -200,6 +235,7 @@ int main(void)
     try_states_and_limits();
     try_images();
     try_regions();
+    try_points();
     try_listing();
     return failed;
 }

@@ -1,11 +1,13 @@
 /*
  * Calls every function of the interface: creates a journal, posts three changes to two files, reads them back in two replies, asks the
- * controls on one of the files, saves the journal, deletes it, and loads it again.
+ * controls on one of the files, sets and deletes its reparse point, which posts two more changes, saves the journal, deletes it, and loads
+ * it again.
  * Build and run: examples/c/run
  */
 #include <inttypes.h>
 #include <stdio.h>
 #include <stdlib.h>
+#include <string.h>
 
 #include "lanhduxe.h"
 
@@ -80,12 +82,11 @@ static void ask_regions(const usn_volume *volume, usn_file file)
     expect("usn_query_file_regions", answer.status);
 }
 
-/* The controls on the first file: 60 of its 100 bytes are valid, it has two links, and it is a reparse point. */
-static void ask_file(const usn_volume *volume)
+/* The controls that ask about the first file: 60 of its 100 bytes are valid, and it has two links. */
+static void ask_file(const usn_volume *volume, usn_file file)
 {
-    static const uint8_t pool[] = "t\0a\0b\0l\0e\0T\0", data[20] = { 0 };
+    static const uint8_t pool[] = "t\0a\0b\0l\0e\0T\0";
     static const usn_link links[] = { { .place = 10, .length = 2 }, { .place = 0, .length = 10, .short_length = 10 } };
-    usn_file file = { .id = usn_id_of(41), .usn = 176, .eof = 100, .valid = 60, .tag = 0xA000000C };
     uint8_t output[USN_READ_ROOM];
 
     usn_answer answer = usn_read_file(*volume, file, usn_id_of(5), pool, 12, links, 2, NULL, 0, output, sizeof output);
@@ -96,20 +97,43 @@ static void ask_file(const usn_volume *volume)
            usn_get_number(record.file.bytes, 8), usn_get_number(record.parent.bytes, 8), record.usn, record.length, output[record.name]);
 
     ask_regions(volume, file);
+}
 
-    answer = usn_get_reparse_point(*volume, file, data, sizeof data, output, sizeof output);
+/* The first file becomes a link to another table, and then a plain file again. Its store stays with it all the time. */
+static void link_file(usn_volume *volume, uint8_t *ring, usn_file *file)
+{
+    static const uint8_t name[] = "t\0a\0b\0l\0e\0", target[] = "t\0a\0b\0l\0e\0" "2\0";
+    static uint8_t store[USN_STORE_MIN];
+    enum { HEADER = 8, NAME_SIZE = 10, TARGET_SIZE = 12 };
+    usn_change change = { .file = file->id, .parent = usn_id_of(5) };
+    uint8_t input[HEADER + TARGET_SIZE] = { 0 }, output[sizeof input];
+    usn_put_number(input, 0xA000000C, 4);
+    usn_put_number(input + 4, TARGET_SIZE, 2);
+    memcpy(input + HEADER, target, TARGET_SIZE);
+    expect("usn_set_reparse_point",
+           usn_set_reparse_point(volume, ring, CAPACITY, file, store, sizeof store, change, name, NAME_SIZE, input, sizeof input));
+    printf("set a reparse point, Usn %" PRIu64 "\n", file->usn);
+
+    usn_answer answer = usn_get_reparse_point(*volume, *file, store, sizeof store, output, sizeof output);
     expect("usn_get_reparse_point", answer.status);
     printf("reparse tag %08" PRIX64 ", %" PRIu64 " bytes of data\n", usn_get_number(output, 4), usn_get_number(output + 4, 2));
+
+    usn_put_number(input + 4, 0, 2); /* the header alone */
+    expect("usn_delete_reparse_point",
+           usn_delete_reparse_point(volume, ring, CAPACITY, file, store, sizeof store, change, name, NAME_SIZE, input, HEADER));
+    printf("deleted it, Usn %" PRIu64 "\n", file->usn);
 }
 
 int main(void)
 {
     static uint8_t ring[CAPACITY], older[USN_IMAGE_ROOM(CAPACITY)], image[USN_IMAGE_ROOM(CAPACITY)];
     usn_volume volume = { .usn = 1, .regions = 1, .reparse = 1, .points = 1, .journal = 1, .capacity = CAPACITY };
+    usn_file file = { .id = usn_id_of(41), .usn = 176, .eof = 100, .valid = 60 };
     expect("usn_create", usn_create(&volume, ID));
     post_changes(&volume, ring);
     read_changes(&volume, ring);
-    ask_file(&volume);
+    ask_file(&volume, file);
+    link_file(&volume, ring, &file);
     usn_answer saved = usn_save_journal(volume, ring, CAPACITY, USN_FORM_1, older, sizeof older);
     expect("usn_save_journal", saved.status);
     printf("saved in form 1, %" PRIu64 " bytes\n", saved.count);

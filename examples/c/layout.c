@@ -30,7 +30,7 @@ AT(usn_change, source, 44);
 AT(usn_change, security, 48);
 AT(usn_change, attributes, 52);
 
-SIZE(usn_file, 64);
+SIZE(usn_file, 72);
 AT(usn_file, id, 0);
 AT(usn_file, usn, 16);
 AT(usn_file, eof, 24);
@@ -38,6 +38,7 @@ AT(usn_file, valid, 32);
 AT(usn_file, attributes, 40);
 AT(usn_file, tag, 44);
 AT(usn_file, guid, 48);
+AT(usn_file, length, 64);
 
 SIZE(usn_link, 12);
 AT(usn_link, place, 0);

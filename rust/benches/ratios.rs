@@ -122,11 +122,15 @@ fn full(capacity: usize, size: usize) -> Pair {
 fn full_of(capacity: usize, size: usize, ids: (u128, u128)) -> Pair {
     let mut p = Pair {
         library: lanhduxe::Volume {
+            reparse: 1,
+            points: 1,
             journal: 1,
             capacity: capacity as u64,
             ..Default::default()
         },
         model: model::Volume {
+            reparse: 1,
+            points: 1,
             journal: 1,
             capacity: capacity as u64,
             ..Default::default()
@@ -369,6 +373,7 @@ fn disk() -> Disk {
             attributes: 32,
             tag: 0xA000_000C,
             guid,
+            length: 0,
         },
         same: model::File {
             id: NARROW.0,
@@ -378,6 +383,7 @@ fn disk() -> Disk {
             attributes: 32,
             tag: 0xA000_000C,
             guid,
+            length: 0,
         },
     }
 }
@@ -467,30 +473,134 @@ fn regions(room: usize, count: usize) -> Timed {
     )
 }
 
-fn reparse_points() -> Timed {
-    let d = disk();
-    let data = vec![7; 16_376];
-    let (mut a, mut b) = (vec![0; 16_384], vec![0; 16_384]);
-    let x = d.library.get_reparse_point(&d.file, &data, &mut a);
-    let y = model::get_reparse_point(&d.model, &d.same, &data, &mut b);
-    assert!((x.status.number(), x.count) == y && a == b && x.count == 16_384);
+/// Memory from the start of a page on. How long a copy of 16 KiB takes depends on where in their pages its two ends lie: with these it is
+/// the same for both sides, what is read at the start of a page and what is written from its middle on.
+#[repr(align(4096))]
+struct Pages([u8; 20_480]);
+
+impl Pages {
+    fn new() -> Box<Pages> {
+        Box::new(Pages([7; 20_480]))
+    }
+
+    /// A buffer to be read.
+    fn source(&self, length: usize) -> &[u8] {
+        &self.0[..length]
+    }
+
+    /// A buffer to be written.
+    fn target(&mut self, length: usize) -> &mut [u8] {
+        &mut self.0[2_048..][..length]
+    }
+}
+
+/// A Microsoft point with so much data.
+fn point(length: usize) -> Vec<u8> {
+    let mut point = 0xA000_000C_u32.to_le_bytes().to_vec();
+    point.extend((length as u32).to_le_bytes());
+    point.resize(8 + length, 7);
+    point
+}
+
+fn reparse_points(length: usize) -> Timed {
+    let mut d = disk();
+    (d.file.length, d.same.length) = (length as u64, length as u64);
+    let (memory, mut outputs) = (Pages::new(), [Pages::new(), Pages::new()]);
+    let store = memory.source(16_376);
+    let [a, b] = outputs.each_mut().map(|output| output.target(16_384));
+    let x = d.library.get_reparse_point(&d.file, store, a);
+    let y = model::get_reparse_point(&d.model, &d.same, store, b);
+    assert!((x.status.number(), x.count) == y && a == b && a[..x.count] == point(length));
     measure(
         || {
             black_box(d.library.get_reparse_point(
                 black_box(&d.file),
-                black_box(&data),
-                black_box(&mut a),
+                black_box(store),
+                black_box(a),
             ));
         },
         || {
             black_box(model::get_reparse_point(
                 &d.model,
                 black_box(&d.same),
-                black_box(&data),
-                black_box(&mut b),
+                black_box(store),
+                black_box(b),
             ));
         },
     )
+}
+
+/// What a call does to a file's point.
+#[derive(Clone, Copy)]
+enum To {
+    Set,
+    Delete,
+}
+
+/// Sets or deletes the point of a file that has one, with so much data in the input, and a name of 24 bytes for the post.
+fn points(mut p: Pair, to: To, length: usize) -> Timed {
+    let d = disk();
+    let (c, e) = change(NARROW);
+    let (mut memory, mut stores) = (Pages::new(), [Pages::new(), Pages::new()]);
+    memory.0[..8 + length].copy_from_slice(&point(length));
+    let (name, input) = (&letters(24)[..], memory.source(8 + length));
+    let [a, b] = &mut p.rings;
+    let [s, t] = stores.each_mut().map(|store| store.target(16_376));
+    let (v, m) = (&mut p.library, &mut p.model);
+    let mut library = || {
+        let mut f = black_box(d.file);
+        let (a, s, c) = (black_box(&mut *a), black_box(&mut *s), black_box(&c));
+        let (name, input) = (black_box(name), black_box(input));
+        let status = match to {
+            To::Set => v.set_reparse_point(a, &mut f, s, c, name, input),
+            To::Delete => v.delete_reparse_point(a, &mut f, s, c, name, input),
+        };
+        black_box(f);
+        black_box(status)
+    };
+    let mut model = || {
+        let mut f = black_box(d.same);
+        let (b, t, e) = (black_box(&mut *b), black_box(&mut *t), black_box(&e));
+        let (name, input) = (black_box(name), black_box(input));
+        let status = match to {
+            To::Set => model::set_reparse_point(m, b, &mut f, t, e, name, input),
+            To::Delete => model::delete_reparse_point(m, b, &mut f, t, e, name, input),
+        };
+        black_box(f);
+        black_box(status)
+    };
+    assert_eq!(library(), lanhduxe::Status::Success);
+    assert_eq!(model(), model::status::SUCCESS);
+    let timed = measure(
+        || {
+            library();
+        },
+        || {
+            model();
+        },
+    );
+    // both sides were called as often
+    assert!(p.rings[0] == p.rings[1] && p.library.last == p.model.last);
+    assert!(s == t && s.starts_with(&input[8..]));
+    timed
+}
+
+/// Sets of points with much and with little data, and deletes.
+fn rows_of_points(where_posted: &str, p: impl Fn() -> Pair) {
+    for (call, to, length) in [
+        ("set of a reparse point of 16 KiB", To::Set, 16_376),
+        ("set of a reparse point of 28 bytes", To::Set, 20),
+        ("delete of a reparse point", To::Delete, 0),
+    ] {
+        row(&format!("{call}, {where_posted}"), &points(p(), to, length));
+    }
+}
+
+/// A pair without support for a journal, where posts are skipped.
+fn without_journal() -> Pair {
+    let mut p = full(1_024, 24);
+    (p.library.journal, p.model.journal) = (0, 0);
+    p
 }
 
 fn main() {
@@ -569,7 +679,12 @@ fn main() {
     row("file read, two links", &file_reads());
     row("file regions, two regions", &regions(64, 64));
     row("file regions, one of two", &regions(63, 40));
-    row("reparse point of 16 KiB", &reparse_points());
+    row("reparse point of 16 KiB", &reparse_points(16_376));
+    row("reparse point of 28 bytes", &reparse_points(20));
+    rows_of_points("no journal", without_journal);
+    rows_of_points("posted to a full ring of 64 KiB, names of 24 bytes", || {
+        full(65_536, 24)
+    });
 
     heading("post on a full ring, name of 2 bytes, capacity");
     let capacities = [1_024, 2_048, 4_096, 8_192, 16_384, 32_768, 65_536];

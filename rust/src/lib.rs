@@ -1,4 +1,4 @@
-//! Safe calls for four file controls and a change journal over lent memory.
+//! Safe calls for six file controls and a change journal over lent memory.
 //!
 //! The library behind this crate allocates nothing and keeps nothing. The
 //! caller owns a [`Volume`] record, the journal's ring and every other buffer,
@@ -207,11 +207,37 @@ mod c {
         pub fn usn_get_reparse_point(
             volume: Volume,
             file: FileRecord,
-            data: *const u8,
-            data_size: usize,
+            store: *const u8,
+            store_size: usize,
             output: *mut u8,
             output_size: usize,
         ) -> Answer;
+        pub fn usn_set_reparse_point(
+            volume: *mut Volume,
+            ring: *mut u8,
+            ring_size: usize,
+            file: *mut FileRecord,
+            store: *mut u8,
+            store_size: usize,
+            change: Change,
+            name: *const u8,
+            name_size: usize,
+            input: *const u8,
+            input_size: usize,
+        ) -> u32;
+        pub fn usn_delete_reparse_point(
+            volume: *mut Volume,
+            ring: *mut u8,
+            ring_size: usize,
+            file: *mut FileRecord,
+            store: *const u8,
+            store_size: usize,
+            change: Change,
+            name: *const u8,
+            name_size: usize,
+            input: *const u8,
+            input_size: usize,
+        ) -> u32;
         pub fn usn_read_record(bytes: *const u8, size: usize, at: usize) -> Record;
         pub fn usn_walk_reply(reply: *const u8, size: usize) -> Walk;
         pub fn usn_list_reply(
@@ -252,7 +278,7 @@ const _: () = {
     assert!(offset_of!(Change, security) == 48);
     assert!(offset_of!(Change, attributes) == 52);
 
-    assert!(size_of::<FileRecord>() == 64);
+    assert!(size_of::<FileRecord>() == 72);
     assert!(offset_of!(FileRecord, id) == 0);
     assert!(offset_of!(FileRecord, usn) == 16);
     assert!(offset_of!(FileRecord, eof) == 24);
@@ -260,6 +286,7 @@ const _: () = {
     assert!(offset_of!(FileRecord, attributes) == 40);
     assert!(offset_of!(FileRecord, tag) == 44);
     assert!(offset_of!(FileRecord, guid) == 48);
+    assert!(offset_of!(FileRecord, length) == 64);
 
     assert!(size_of::<Link>() == 12);
     assert!(offset_of!(Link, place) == 0);
@@ -320,8 +347,18 @@ pub enum Status {
     FileCorruptError = 0xC000_0102,
     /// `STATUS_NOT_A_REPARSE_POINT`: the file has no reparse tag.
     NotAReparsePoint = 0xC000_0275,
+    /// `STATUS_IO_REPARSE_TAG_INVALID`: the reparse tag in the input is 0.
+    IoReparseTagInvalid = 0xC000_0276,
+    /// `STATUS_IO_REPARSE_TAG_MISMATCH`: the file has another reparse tag.
+    IoReparseTagMismatch = 0xC000_0277,
+    /// `STATUS_IO_REPARSE_DATA_INVALID`: the input is not one reparse point, or
+    /// for a delete not its header alone.
+    IoReparseDataInvalid = 0xC000_0278,
     /// `STATUS_VOLUME_NOT_UPGRADED`: the volume has no reparse points.
     VolumeNotUpgraded = 0xC000_029C,
+    /// `STATUS_REPARSE_ATTRIBUTE_CONFLICT`: the file has the same reparse tag
+    /// with another GUID.
+    ReparseAttributeConflict = 0xC000_02B2,
     /// `STATUS_JOURNAL_DELETE_IN_PROGRESS`: the journal is being deleted.
     JournalDeleteInProgress = 0xC000_02B7,
     /// `STATUS_JOURNAL_NOT_ACTIVE`: the volume has no journal.
@@ -332,7 +369,7 @@ pub enum Status {
 
 impl Status {
     /// All statuses, by rising number.
-    pub const ALL: [Status; 14] = [
+    pub const ALL: [Status; 18] = [
         Status::Success,
         Status::BufferOverflow,
         Status::InvalidParameter,
@@ -343,7 +380,11 @@ impl Status {
         Status::NotSupported,
         Status::FileCorruptError,
         Status::NotAReparsePoint,
+        Status::IoReparseTagInvalid,
+        Status::IoReparseTagMismatch,
+        Status::IoReparseDataInvalid,
         Status::VolumeNotUpgraded,
+        Status::ReparseAttributeConflict,
         Status::JournalDeleteInProgress,
         Status::JournalNotActive,
         Status::JournalEntryDeleted,
@@ -386,7 +427,11 @@ impl fmt::Display for Status {
             Status::NotSupported => "STATUS_NOT_SUPPORTED",
             Status::FileCorruptError => "STATUS_FILE_CORRUPT_ERROR",
             Status::NotAReparsePoint => "STATUS_NOT_A_REPARSE_POINT",
+            Status::IoReparseTagInvalid => "STATUS_IO_REPARSE_TAG_INVALID",
+            Status::IoReparseTagMismatch => "STATUS_IO_REPARSE_TAG_MISMATCH",
+            Status::IoReparseDataInvalid => "STATUS_IO_REPARSE_DATA_INVALID",
             Status::VolumeNotUpgraded => "STATUS_VOLUME_NOT_UPGRADED",
+            Status::ReparseAttributeConflict => "STATUS_REPARSE_ATTRIBUTE_CONFLICT",
             Status::JournalDeleteInProgress => "STATUS_JOURNAL_DELETE_IN_PROGRESS",
             Status::JournalNotActive => "STATUS_JOURNAL_NOT_ACTIVE",
             Status::JournalEntryDeleted => "STATUS_JOURNAL_ENTRY_DELETED",
@@ -404,7 +449,7 @@ pub struct Volume {
     pub usn: u32,
     /// Whether file regions can be queried.
     pub regions: u32,
-    /// Whether the reparse point control is there.
+    /// Whether the reparse point controls are there.
     pub reparse: u32,
     /// Whether the volume has reparse points at all.
     pub points: u32,
@@ -515,6 +560,9 @@ pub struct FileRecord {
     pub tag: u32,
     /// The reparse GUID, given out for tags that are not Microsoft's.
     pub guid: [u8; 16],
+    /// The length of the reparse data: at most 16,376 with a Microsoft tag and
+    /// 16,360 with another, 0 with none.
+    pub length: u64,
 }
 
 /// One entry of a file's link table.
@@ -816,29 +864,148 @@ impl Volume {
 
     /// Gets a file's reparse point, with as much of its data as fits.
     ///
-    /// Lent are the reparse data, which stay as they are, and the output. The
-    /// reply is the tag `u32`, the whole data length `u16`, a zero `u16`, the
-    /// GUID unless the tag is Microsoft's, and the data.
+    /// Lent are the file's store, which stays as it is, and the output. The store
+    /// has 16,376 bytes or more, and the first `length` of them are the reparse
+    /// data. The reply is the tag `u32`, the whole data length `u16`, a zero
+    /// `u16`, the GUID unless the tag is Microsoft's, and the data.
     ///
     /// Refusals, in order: [`Status::InvalidDeviceRequest`] without the control;
     /// [`Status::VolumeNotUpgraded`] without reparse points on the volume;
-    /// [`Status::FileCorruptError`] for too much data, or any with tag 0;
-    /// [`Status::NotAReparsePoint`] for tag 0; [`Status::BufferTooSmall`] below 8
-    /// bytes of output for a Microsoft tag or 24 for another.
+    /// [`Status::FileCorruptError`] for a store below 16,376 bytes, too much data,
+    /// or any with tag 0; [`Status::NotAReparsePoint`] for tag 0;
+    /// [`Status::BufferTooSmall`] below 8 bytes of output for a Microsoft tag or
+    /// 24 for another.
     #[inline]
-    pub fn get_reparse_point(&self, file: &FileRecord, data: &[u8], output: &mut [u8]) -> Answer {
+    pub fn get_reparse_point(&self, file: &FileRecord, store: &[u8], output: &mut [u8]) -> Answer {
         // SAFETY: as in `read_journal`.
         let answer = unsafe {
             c::usn_get_reparse_point(
                 *self,
                 *file,
-                data.as_ptr(),
-                data.len(),
+                store.as_ptr(),
+                store.len(),
                 output.as_mut_ptr(),
                 output.len(),
             )
         };
         Answer::of(answer, output.len())
+    }
+
+    /// Sets a file's reparse point, and posts the change.
+    ///
+    /// Lent are the ring, the file's record and its store, the name and the
+    /// input, which is laid out as the reply of [`Volume::get_reparse_point`].
+    /// The file's `tag`, `guid` (zeroes for a Microsoft tag) and `length` become
+    /// the input's, and the data is written to the start of the store, and no
+    /// other byte there. Where a point stands, the input must have its tag, and
+    /// its GUID unless the tag is Microsoft's.
+    ///
+    /// The post is one of `change` and `name`, with the reason 0x00100000 in
+    /// place of the change's own, to the file's `usn`. Where [`Volume::post`]
+    /// would skip it, the call succeeds all the same; where it would refuse it,
+    /// the call is refused, and nothing changes.
+    ///
+    /// Refusals, in order: [`Status::InvalidDeviceRequest`] without the control;
+    /// [`Status::VolumeNotUpgraded`] without reparse points on the volume;
+    /// [`Status::FileCorruptError`] for a file's record or store that
+    /// [`Volume::get_reparse_point`] refuses; [`Status::IoReparseDataInvalid`]
+    /// for an input shorter than its header, of another length than header and
+    /// data together, above 16,384 bytes, or without the zero;
+    /// [`Status::IoReparseTagInvalid`] for tag 0;
+    /// [`Status::IoReparseTagMismatch`] where another tag stands;
+    /// [`Status::ReparseAttributeConflict`] where the same tag, not Microsoft's,
+    /// stands with another GUID; then those of [`Volume::post`].
+    ///
+    /// ```
+    /// use lanhduxe::{Change, FileRecord, Status, Volume};
+    ///
+    /// let mut volume = Volume { reparse: 1, points: 1, ..Volume::default() };
+    /// let (mut file, mut store) = (FileRecord::default(), vec![0; 16_376]);
+    /// let link = [0x0C, 0, 0, 0xA0, 4, 0, 0, 0, b'n', 0, b'o', 0];
+    ///
+    /// // There is no journal, so that the post is skipped.
+    /// let (change, name) = (Change::default(), b"a\0");
+    /// let status =
+    ///     volume.set_reparse_point(&mut [], &mut file, &mut store, &change, name, &link);
+    /// assert_eq!(status, Status::Success);
+    /// assert_eq!((file.tag, file.length), (0xA000_000C, 4));
+    ///
+    /// let mut output = [0; 12];
+    /// let answer = volume.get_reparse_point(&file, &store, &mut output);
+    /// assert_eq!((answer.status, output), (Status::Success, link));
+    ///
+    /// let header = [0x0C, 0, 0, 0xA0, 0, 0, 0, 0];
+    /// let status =
+    ///     volume.delete_reparse_point(&mut [], &mut file, &store, &change, name, &header);
+    /// assert_eq!(status, Status::Success);
+    /// assert_eq!(file, FileRecord::default());
+    /// ```
+    #[inline]
+    pub fn set_reparse_point(
+        &mut self,
+        ring: &mut [u8],
+        file: &mut FileRecord,
+        store: &mut [u8],
+        change: &Change,
+        name: &[u8],
+        input: &[u8],
+    ) -> Status {
+        // SAFETY: each pointer and length comes from a live borrow; those of
+        // both records, the ring and the store are exclusive.
+        Status::of(unsafe {
+            c::usn_set_reparse_point(
+                self,
+                ring.as_mut_ptr(),
+                ring.len(),
+                file,
+                store.as_mut_ptr(),
+                store.len(),
+                *change,
+                name.as_ptr(),
+                name.len(),
+                input.as_ptr(),
+                input.len(),
+            )
+        })
+    }
+
+    /// Deletes a file's reparse point, and posts the change.
+    ///
+    /// Lent are the ring, the file's record, its store, which stays as it is, the
+    /// name and the input: the header of the point that stands, with the data
+    /// length 0. The file's `tag`, `guid` and `length` become 0. The post is as
+    /// in [`Volume::set_reparse_point`].
+    ///
+    /// Refusals, in order: those of [`Volume::set_reparse_point`] up to
+    /// [`Status::IoReparseDataInvalid`], which is for a data length other than 0
+    /// too; [`Status::IoReparseTagInvalid`] for tag 0;
+    /// [`Status::NotAReparsePoint`] for a file without a point; then as there.
+    #[inline]
+    pub fn delete_reparse_point(
+        &mut self,
+        ring: &mut [u8],
+        file: &mut FileRecord,
+        store: &[u8],
+        change: &Change,
+        name: &[u8],
+        input: &[u8],
+    ) -> Status {
+        // SAFETY: as in `set_reparse_point`; the store is only read.
+        Status::of(unsafe {
+            c::usn_delete_reparse_point(
+                self,
+                ring.as_mut_ptr(),
+                ring.len(),
+                file,
+                store.as_ptr(),
+                store.len(),
+                *change,
+                name.as_ptr(),
+                name.len(),
+                input.as_ptr(),
+                input.len(),
+            )
+        })
     }
 }
 

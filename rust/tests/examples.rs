@@ -56,7 +56,11 @@ fn the_statuses_have_their_numbers_and_names() {
         (0xC000_00BB, "STATUS_NOT_SUPPORTED"),
         (0xC000_0102, "STATUS_FILE_CORRUPT_ERROR"),
         (0xC000_0275, "STATUS_NOT_A_REPARSE_POINT"),
+        (0xC000_0276, "STATUS_IO_REPARSE_TAG_INVALID"),
+        (0xC000_0277, "STATUS_IO_REPARSE_TAG_MISMATCH"),
+        (0xC000_0278, "STATUS_IO_REPARSE_DATA_INVALID"),
         (0xC000_029C, "STATUS_VOLUME_NOT_UPGRADED"),
+        (0xC000_02B2, "STATUS_REPARSE_ATTRIBUTE_CONFLICT"),
         (0xC000_02B7, "STATUS_JOURNAL_DELETE_IN_PROGRESS"),
         (0xC000_02B8, "STATUS_JOURNAL_NOT_ACTIVE"),
         (0xC000_02CF, "STATUS_JOURNAL_ENTRY_DELETED"),
@@ -86,6 +90,8 @@ fn the_random_tests_see_every_status() {
         &expected::FILE,
         &expected::REGIONS,
         &expected::REPARSE,
+        &expected::SET,
+        &expected::DELETE,
     ];
     for status in Status::ALL {
         assert!(tests.iter().any(|seen| seen.contains(&status)), "{status}");
@@ -286,21 +292,90 @@ fn file_regions_without_room_for_the_second() {
 fn reparse_point_with_a_short_output() {
     let file = FileRecord {
         tag: 0xA000_000C,
+        length: 20,
         ..FileRecord::default()
     };
-    let data: Vec<u8> = (1..=20).collect();
+    let store: Vec<u8> = (1..=255).cycle().take(16_376).collect();
     let mut output = [0xEE; 28];
     assert_eq!(
-        volume(1024).get_reparse_point(&file, &data, &mut output[..7]),
+        volume(1024).get_reparse_point(&file, &store, &mut output[..7]),
         refused(Status::BufferTooSmall)
     );
     assert_eq!(
-        volume(1024).get_reparse_point(&file, &data, &mut output[..18]),
+        volume(1024).get_reparse_point(&file, &store, &mut output[..18]),
         success(18)
     );
     assert_eq!(output[..8], [0x0C, 0, 0, 0xA0, 20, 0, 0, 0]);
-    assert_eq!(output[8..18], data[..10]);
+    assert_eq!(output[8..18], store[..10]);
     assert_eq!(output[18..], [0xEE; 10]);
+}
+
+/// A reparse point with a GUID and three bytes of data.
+#[rustfmt::skip]
+const POINT: [u8; 27] = [
+    0x42, 0, 0, 0, 3, 0, 0, 0,
+    1, 2, 3, 4, 5, 6, 7, 8, 9, 10, 11, 12, 13, 14, 15, 16,
+    0x78, 0x79, 0x7A,
+];
+
+#[test]
+fn a_reparse_point_is_set_and_deleted() {
+    let mut volume = volume(1024);
+    let mut ring = vec![0xEE; 1024];
+    assert_eq!(volume.create(7), Status::Success);
+    let change = Change {
+        file: FileId::new(9),
+        parent: PARENT,
+        ..Change::default()
+    };
+    let posted = Change {
+        reason: 0x0010_0000,
+        ..change
+    };
+    let mut file = FileRecord {
+        id: FileId::new(9),
+        eof: 100,
+        valid: 60,
+        ..FileRecord::default()
+    };
+    let (none, mut store) = (file, vec![0xDD; 16_376]);
+    let status =
+        volume.set_reparse_point(&mut ring, &mut file, &mut store, &change, b"a\0", &POINT);
+    assert_eq!(status, Status::Success);
+    let expected = FileRecord {
+        usn: 80,
+        tag: 0x42,
+        guid: [1, 2, 3, 4, 5, 6, 7, 8, 9, 10, 11, 12, 13, 14, 15, 16],
+        length: 3,
+        ..none
+    };
+    assert_eq!(file, expected);
+    assert_eq!(store[..4], *b"xyz\xDD");
+    assert_eq!((volume.first, volume.last), (0, 80));
+    assert_eq!(ring[..80], lay_out(3, &posted, 80, b"a\0"));
+    let mut output = [0xEE; 28];
+    let answer = volume.get_reparse_point(&file, &store, &mut output);
+    assert_eq!(answer, success(27));
+    assert_eq!(output, [&POINT[..], &[0xEE]].concat()[..]);
+
+    let mut header: [u8; 24] = POINT[..24].try_into().expect("a header");
+    let mut delete = |header: &[u8]| {
+        volume.delete_reparse_point(&mut ring, &mut file, &store, &change, b"a\0", header)
+    };
+    assert_eq!(delete(&header), Status::IoReparseDataInvalid);
+    header[4] = 0;
+    header[23] ^= 1;
+    assert_eq!(delete(&header), Status::ReparseAttributeConflict);
+    header[23] ^= 1;
+    assert_eq!(delete(&header), Status::Success);
+    assert_eq!(delete(&header), Status::NotAReparsePoint);
+    assert_eq!(file, FileRecord { usn: 160, ..none });
+    assert_eq!((volume.first, volume.last), (0, 160));
+    assert_eq!(ring[80..160], lay_out(3, &posted, 160, b"a\0"));
+    assert_eq!(ring[160..], [0xEE; 864]);
+    assert_eq!(store[..4], *b"xyz\xDD");
+    let answer = volume.get_reparse_point(&file, &store, &mut output);
+    assert_eq!(answer, refused(Status::NotAReparsePoint));
 }
 
 /// A journal of 1,024 bytes with thirteen records, names of 2 bytes.

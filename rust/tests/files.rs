@@ -2,6 +2,7 @@
 
 mod common;
 
+use common::points::{header_length, STORE};
 use common::{check, expected, model_file, model_links, model_volume, region_input};
 use common::{Counts, Hex, Lent, Rng, NEGATIVE};
 use lanhduxe::{FileRecord, Link, Volume};
@@ -38,6 +39,7 @@ fn file(rng: &mut Rng) -> FileRecord {
         attributes: rng.word(),
         tag: rng.word(),
         guid: [0; 16],
+        length: rng.below(100),
     };
     rng.fill(&mut file.guid);
     file
@@ -135,6 +137,7 @@ fn file_reads_agree_with_the_model() {
         if rng.percent(10) {
             file.eof = rng.long();
             file.valid = rng.long();
+            file.length = rng.long();
         }
         let (_, parent) = common::ids(&mut rng, 30);
         let pool_length = match rng.below(5) {
@@ -250,6 +253,7 @@ fn region_queries_agree_with_the_model() {
         }
         if rng.percent(5) {
             file.usn = rng.long();
+            file.length = rng.long();
         }
 
         let offset = match rng.below(8) {
@@ -359,36 +363,40 @@ fn reparse_points_agree_with_the_model() {
             file.valid = rng.long();
             file.usn = rng.long();
         }
-        let data_length = match rng.below(16) {
+        file.length = match rng.below(16) {
             0..=2 => rng.below(3),
             3 => rng.between(16_359, 16_361),
             4 => rng.between(16_375, 16_377),
             5 => rng.between(16_360, 16_376),
             6 => rng.below(16_376),
-            7 if rng.percent(10) => rng.pick(&[16_384, 65_535, 65_536, 65_556]),
+            7 if rng.percent(10) => rng.pick(&[16_384, 65_535, 65_536, 65_556, NEGATIVE, u64::MAX]),
             _ => rng.below(100),
         };
-        let data_length = match file.tag {
-            0 if rng.percent(70) => 0,
-            _ => data_length as usize,
+        if file.tag == 0 && rng.percent(70) {
+            file.length = 0;
+        }
+        let store_length = match rng.below(40) {
+            0 => rng.pick(&[0, 1, 100, 16_360, 16_374]),
+            1..=2 => STORE - 1,
+            3..=4 => STORE + 1,
+            5 => STORE + rng.below(100) as usize,
+            _ => STORE,
         };
-        let header = if file.tag >> 31 == 1 { 8 } else { 24 };
-        let whole = header + data_length as u64;
+        let whole = header_length(file.tag) as u64 + file.length.min(65_556);
         let room = match rng.below(10) {
             0..=1 => whole + rng.below(40),
             2..=4 => rng.between(0, whole),
             _ => near(&mut rng, &[0, 7, 8, 23, 24, whole, whole], whole) as u64,
         };
 
-        let data = rng.bytes(data_length);
-        let data = Lent::holding(&mut rng, &data);
+        let store = Lent::output(&mut rng, store_length);
         let mut output = Lent::output(&mut rng, room as usize);
         let answer =
-            volume.get_reparse_point(&file, &data.library[..data.length], output.for_library());
+            volume.get_reparse_point(&file, &store.library[..store.length], output.for_library());
         let (status, count) = model::get_reparse_point(
             &model_volume(&volume),
             &model_file(&file),
-            &data.before[..data.length],
+            &store.before[..store.length],
             output.for_model(),
         );
         counts.add(answer.status);
@@ -396,14 +404,14 @@ fn reparse_points_agree_with_the_model() {
             answer.status.number() == status
                 && answer.count == count
                 && output.agrees(count)
-                && data.same(),
+                && store.same(),
             TEST,
             index,
             || {
                 format!(
                     "library {answer:?}, model {status:#x} {count}\n{volume:?}\n{file:?}\n\
-                     data {:?}\noutput before {:?} (lent {})\nlibrary's {:?}\nmodel's {:?}",
-                    Hex(&data.before[..data.length]),
+                     store {:?}\noutput before {:?} (lent {})\nlibrary's {:?}\nmodel's {:?}",
+                    Hex(&store.before[..store.length]),
                     Hex(&output.before),
                     output.length,
                     Hex(&output.library),

@@ -10,10 +10,10 @@ const WRAPPER: &str = "rust/src/lib.rs";
 const LIBRARY: &str = "crates/lanhduxe/src/lib.rt";
 
 /// `LANHDUXE_VERSION`, and the number that `fingerprint` makes of the structs and calls of that version.
-const VERSION: (&str, u64) = ("7", 0xD39E_1527_6FF2_6D8A);
+const VERSION: (&str, u64) = ("8", 0x9317_07E4_9ACC_3BBC);
 
 /// The calls of the interface.
-const CALLS: usize = 14;
+const CALLS: usize = 16;
 
 /// A struct that is shared: where the library has it, and its name in the library, in the wrapper and in the header.
 struct Shared {
@@ -72,15 +72,13 @@ const ID_STRUCT: (&str, &str) = ("crates/call_cores/src/lib.rt", "Id");
 const HEADERS_OWN: [&str; 1] = ["usn_read_input"];
 
 /// What the library calls otherwise than the header. A slice's length is called `_size` behind its name here.
-const OTHER_NAMES: [(&str, &str); 10] = [
+const OTHER_NAMES: [(&str, &str); 8] = [
     ("v", "volume"),
     ("f", "file"),
     ("c", "change"),
     ("s", "bytes"),
     ("s", "reply"),
     ("s_size", "size"),
-    ("bytes", "data"),
-    ("bytes_size", "data_size"),
     ("links_size", "link_count"),
     ("short", "short_length"), // `short` is a word of C
 ];

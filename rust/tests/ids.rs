@@ -9,6 +9,7 @@
 mod common;
 
 use common::journal::{behind, gave, given, moved, refused, success, Given, Journal, CAPACITY};
+use common::points::STORE;
 use common::{check, image, is_wide, lay_out, record_length, selects};
 use common::{model_change, model_file, model_links, model_volume};
 use common::{version_of, Counts, Hex, Lent, ReadInput, Rng, CHANGE, FORMS, GUARD, NEGATIVE};
@@ -610,12 +611,14 @@ fn regions_and_reparse_points_have_no_ids() {
         valid: 60,
         tag: 5,
         guid: [9; 16],
+        length: 4,
         ..FileRecord::default()
     };
+    let store = [0xD4; STORE];
     let answers = |file: &FileRecord| {
         let (mut regions, mut point) = (vec![0xCC; 80], vec![0xCC; 80]);
         let one = volume.query_file_regions(file, &[], &mut regions);
-        let other = volume.get_reparse_point(file, b"data", &mut point);
+        let other = volume.get_reparse_point(file, &store, &mut point);
         (given(regions, one), given(point, other))
     };
     let due = answers(&file(FileId::default()));

@@ -7,16 +7,22 @@
 //! They read in both versions, and records have wide ids: in version 2 a reader
 //! comes to the first such record that it selects, and no further.
 //!
+//! A reparse point that is set or deleted is a post too, where it succeeds and the
+//! post is not skipped.
+//!
 //! Nothing here looks into the ring. A history is kept from the calls' arguments
 //! alone, and the records that readers were handed are compared with the history,
 //! laid out anew.
 
 mod common;
 
+use common::points::{damage, data_length, lay_out_point, tag_and_guid};
+use common::points::{Arguments, Kind, KINDS, REASON, STORE};
 use common::{check, expected, holds_excluded, is_wide, lay_out, record_length, selects};
+use common::{model_file, model_volume};
 use common::{other_form, version_of, FORMS, NO_FORMS};
 use common::{Counts, Hex, ReadInput, Rng, GUARD, NEGATIVE, TRAILER};
-use lanhduxe::{move_image, Change, Status, Volume};
+use lanhduxe::{move_image, Change, FileRecord, Status, Volume};
 
 const TEST: &str = "readers";
 const CALLS: u64 = 300_000;
@@ -35,9 +41,38 @@ impl Posted {
     }
 }
 
+/// A file whose point is set and deleted: its record, and its store with guard
+/// bytes behind it.
+#[derive(Clone, PartialEq, Eq)]
+struct Linked {
+    record: FileRecord,
+    store: Vec<u8>,
+}
+
+/// A call that sets or deletes a point.
+struct PointCall {
+    kind: Kind,
+    change: Change,
+    name: Vec<u8>,
+    input: Vec<u8>,
+}
+
+impl PointCall {
+    fn arguments(&self) -> Arguments<'_> {
+        Arguments {
+            change: &self.change,
+            name: &self.name,
+            input: &self.input,
+        }
+    }
+}
+
 /// The history of one list, from its creation on. A load goes on with the one
 /// that was saved.
 struct History {
+    /// The volume record as the creation or the load found it: what it supports
+    /// stays so.
+    found: Volume,
     live: bool,
     id: u64,
     capacity: u64,
@@ -54,6 +89,7 @@ impl History {
     /// the lent buffer.
     fn new(found: &Volume, lent: usize, id: u64) -> History {
         History {
+            found: *found,
             live: found.journal != 0 && lent as u64 == found.capacity,
             id,
             capacity: found.capacity,
@@ -68,11 +104,12 @@ impl History {
     /// The history after a load of what this one keeps: of a creation at the
     /// first kept position and posts of the kept records. What was dropped before
     /// stays dropped.
-    fn loaded(self, capacity: u64, id: u64) -> History {
+    fn loaded(self, found: &Volume, id: u64) -> History {
         History {
+            found: *found,
             live: true,
             id,
-            capacity,
+            capacity: found.capacity,
             created: self.first,
             ..self
         }
@@ -119,6 +156,39 @@ impl History {
             self.dropped += 1;
         }
         true
+    }
+
+    /// What a set or a delete leaves of a file, but for the Usn, if nothing but its
+    /// post can refuse it. The model says so for a volume without a journal, where
+    /// posts are skipped.
+    fn changed_point(&self, file: &Linked, call: &PointCall) -> Option<Linked> {
+        let mut volume = model::Volume {
+            journal: 0,
+            ..model_volume(&self.found)
+        };
+        let mut record = model_file(&file.record);
+        let mut store = file.store.clone();
+        let lent = &mut store[..STORE];
+        let status = call
+            .kind
+            .by_model(&mut volume, &mut [], &mut record, lent, call.arguments());
+        let record = FileRecord {
+            tag: record.tag,
+            guid: record.guid,
+            length: record.length,
+            ..file.record
+        };
+        (status == Status::Success.number()).then_some(Linked { record, store })
+    }
+
+    /// Notes a set or a delete that only its post can refuse; true if that counts
+    /// as posted.
+    fn post_of_point(&mut self, call: &PointCall) -> bool {
+        let change = Change {
+            reason: REASON,
+            ..call.change
+        };
+        self.post(&change, &call.name)
     }
 
     fn delete(&mut self, id: u64) {
@@ -222,6 +292,8 @@ struct List {
     ring: Vec<u8>,
     lent: usize,
     history: History,
+    /// Files whose points are set and deleted.
+    files: Vec<Linked>,
     readers: Vec<Reader>,
     /// Readers that were told that records are gone, and do not come back.
     retired: Vec<Reader>,
@@ -270,6 +342,9 @@ struct Run {
     /// Readers brought to the end past such a record, and by reads of version 2.
     past_wide: u64,
     by_two: u64,
+    /// Sets and deletes that posted, whose post was skipped, that their post
+    /// refused, and that were refused before.
+    points: [[u64; 4]; 2],
 }
 
 impl Run {
@@ -283,6 +358,8 @@ impl Run {
             lent = rng.pick(&[0, lent - 8, lent + 8]);
         }
         let volume = Volume {
+            reparse: rng.flag(5),
+            points: rng.flag(5),
             journal: rng.flag(3),
             state: rng.pick(&[0, 0, 3, u32::MAX]),
             first: rng.long(),
@@ -325,7 +402,7 @@ impl Run {
         let mut ring = self.rng.bytes(lent + GUARD);
         let id = self.new_id(&[volume.id, saved.id]);
         let old = saved.id;
-        let history = saved.loaded(volume.capacity, id);
+        let history = saved.loaded(&volume, id);
         let status = volume.load_journal(&mut ring[..lent], image, id);
         let mut list = self.opened(volume, ring, lent, history, status);
         list.readers = readers;
@@ -349,11 +426,13 @@ impl Run {
         history: History,
         status: Status,
     ) -> List {
+        let files = (0..3).map(|_| self.file()).collect();
         let list = List {
             volume,
             ring,
             lent,
             history,
+            files,
             readers: Vec::new(),
             retired: Vec::new(),
             names: self
@@ -368,6 +447,18 @@ impl Run {
         });
         self.index += 1;
         list
+    }
+
+    /// A file without a point. What is of no concern to a point may be bad.
+    fn file(&mut self) -> Linked {
+        let record = FileRecord {
+            usn: self.rng.long(),
+            eof: self.rng.long(),
+            valid: self.rng.long(),
+            ..FileRecord::default()
+        };
+        let store = self.rng.bytes(STORE + GUARD);
+        Linked { record, store }
     }
 
     /// The volume record agrees with the history, as far as the history goes.
@@ -532,8 +623,9 @@ impl Run {
         self.after(list, &before, status, "finish");
     }
 
-    /// A post; `good` or not, it may be one that is skipped or refused.
-    fn post(&mut self, list: &mut List, good: bool) {
+    /// What a post says, and its name. If it is not `good`, it has one of some
+    /// faults; if it is, it may have one all the same.
+    fn post_arguments(&mut self, list: &List, good: bool) -> (Change, Vec<u8>) {
         let rng = &mut self.rng;
         let mut change = common::any_change(rng, list.wide);
         let mut length = match list.names {
@@ -555,6 +647,13 @@ impl Run {
         if fault == Some(2) {
             common::plant_excluded(rng, &mut name);
         }
+        (change, name)
+    }
+
+    /// A post; `good` or not, it may be one that is skipped or refused.
+    fn post(&mut self, list: &mut List, good: bool) {
+        let (change, name) = self.post_arguments(list, good);
+        let rng = &mut self.rng;
         let usn_before = rng.long();
         let mut usn = usn_before;
         let before = list.volume;
@@ -576,6 +675,86 @@ impl Run {
             )
         });
         self.index += 1;
+    }
+
+    /// A set or a delete of a file's point, mostly one that nothing but its post can
+    /// refuse. `damaged`, it is refused before that.
+    fn point_call(&mut self, list: &List, file: &FileRecord, damaged: bool) -> PointCall {
+        let (change, name) = self.post_arguments(list, true);
+        let rng = &mut self.rng;
+        let kind = match file.tag {
+            0 if rng.percent(80) => Kind::Set,
+            _ => rng.pick(&KINDS),
+        };
+        let (tag, guid) = tag_and_guid(rng, file);
+        let length = match kind {
+            Kind::Set if rng.percent(10) => data_length(rng, tag),
+            Kind::Set => rng.below(40) as usize,
+            Kind::Delete => 0,
+        };
+        let mut input = lay_out_point(tag, &guid, &rng.bytes(length));
+        if damaged {
+            damage(rng, &mut input);
+        }
+        PointCall {
+            kind,
+            change,
+            name,
+            input,
+        }
+    }
+
+    /// Sets or deletes the point of one of the files. Where that succeeds, it is a
+    /// post, unless the post is skipped.
+    fn point(&mut self, list: &mut List, damaged: bool) {
+        let which = self.rng.below(list.files.len() as u64) as usize;
+        let call = self.point_call(list, &list.files[which].record, damaged);
+        let file = &mut list.files[which];
+        let (before, file_before) = (list.volume, file.clone());
+        let changed = list.history.changed_point(file, &call);
+        let posted = changed.is_some() && list.history.post_of_point(&call);
+        let skipped = before.journal == 0 || before.state != 1;
+        let due = match changed {
+            Some(mut changed) if posted => {
+                changed.record.usn = list.history.end;
+                Some(changed)
+            }
+            changed => changed.filter(|_| skipped),
+        };
+
+        let status = call.kind.by_library(
+            &mut list.volume,
+            &mut list.ring[..list.lent],
+            &mut file.record,
+            &mut file.store[..STORE],
+            call.arguments(),
+        );
+        self.counts.add(status);
+        let right = (status == Status::Success) == due.is_some()
+            && *file == *due.as_ref().unwrap_or(&file_before)
+            && (posted || list.volume == before);
+        let record = file.record;
+        check(right && self.agrees(list), TEST, self.index, || {
+            format!(
+                "{:?} of a point gave {status}, counts as posted: {posted}, skipped: {skipped}\n\
+                 {:?}\nname {:?}\ninput {:?}\nbefore {before:?}\nafter {:?}\n\
+                 before {:?}\nafter {record:?}",
+                call.kind,
+                call.change,
+                Hex(&call.name),
+                Hex(&call.input),
+                list.volume,
+                file_before.record
+            )
+        });
+        self.index += 1;
+        let ending = match status {
+            Status::Success if posted => 0,
+            Status::Success => 1,
+            _ if list.history.changed_point(&file_before, &call).is_some() => 2,
+            _ => 3,
+        };
+        self.points[call.kind as usize][ending] += 1;
     }
 
     /// Makes a read and checks its frame. Gives the status and, for a success,
@@ -754,14 +933,15 @@ impl Run {
 
     /// A call that posts nothing and leaves the journal alive.
     fn idle_call(&mut self, list: &mut List, reader: usize) {
-        match self.rng.below(8) {
+        match self.rng.below(9) {
             0 => self.create(list),
             1 => self.delete(list, false),
             2 => self.finish(list),
             3 => self.post(list, false),
-            4 => self.other_read(list),
-            5 => self.load(list),
-            6 => self.some_save(list),
+            4 => self.point(list, true),
+            5 => self.other_read(list),
+            6 => self.load(list),
+            7 => self.some_save(list),
             _ => self.come_back(list, reader),
         }
     }
@@ -846,6 +1026,10 @@ impl Run {
                     let it = list.readers.swap_remove(reader);
                     list.retired.push(it);
                 }
+            }
+            131..=150 => {
+                let damaged = self.rng.percent(10);
+                self.point(list, damaged);
             }
             _ => self.post(list, true),
         }
@@ -940,6 +1124,7 @@ fn readers_are_handed_what_was_posted() {
         refused: 0,
         past_wide: 0,
         by_two: 0,
+        points: [[0; 4]; 2],
     };
     let mut lists = 0;
     let mut left = Left::Nothing;
@@ -986,6 +1171,16 @@ fn readers_are_handed_what_was_posted() {
     );
     assert!(run.stopped > 300 && run.refused > 500);
     assert!(run.past_wide > 200 && run.by_two > 1000);
-    let expected = [&expected::JOURNAL[..], &[Status::UnknownRevision]].concat();
+    println!(
+        "{TEST}: sets and deletes of points that posted, whose post was skipped, that their post \
+         refused, and that were refused before: {:?}",
+        run.points
+    );
+    let least = [2000, 200, 50, 500];
+    for ends in run.points {
+        assert!(ends.iter().zip(least).all(|(count, least)| *count > least));
+    }
+    let mut expected = [&expected::JOURNAL[..], &expected::SET, &expected::DELETE].concat();
+    expected.push(Status::UnknownRevision);
     run.counts.finish(&expected, 200_000);
 }

@@ -52,8 +52,8 @@ fn volume(usn: u32, regions: u32, reparse: u32, points: u32) -> Volume {
     }
 }
 
-// The file of a row: usn, attributes, eof, valid data length, tag.
-fn file(usn: u64, attributes: u32, eof: u64, valid: u64, tag: u32) -> FileRecord {
+// The file of a row: usn, attributes, eof, valid data length, tag, and the length of the reparse data.
+fn file(usn: u64, attributes: u32, eof: u64, valid: u64, tag: u32, length: u64) -> FileRecord {
     FileRecord {
         id: id_of(0x1122_3344_5566_7788),
         attributes,
@@ -62,6 +62,7 @@ fn file(usn: u64, attributes: u32, eof: u64, valid: u64, tag: u32) -> FileRecord
         valid,
         tag,
         guid: [1, 2, 3, 4, 5, 6, 7, 8, 9, 10, 11, 12, 13, 14, 15, 16],
+        length,
     }
 }
 
@@ -73,18 +74,17 @@ fn regions(row: &[u8], output: &mut [u8]) {
     let wide = size(row, 4, 32);
     let room = size(row, 8, output.len());
     let v = volume(0, word(row, 1), 0, 0);
-    let f = file(0, 0, number(row, 2), number(row, 3), 0);
+    let f = file(0, 0, number(row, 2), number(row, 3), 0, 0);
     let answer = file_regions::query_file_regions(v, f, &input[..wide], &mut output[..room]);
     told(b"regions", answer, output);
 }
 
 // Reparse point: both support flags, tag, the data's length, room.
-fn reparse(row: &[u8], bytes: &[u8], output: &mut [u8]) {
-    let n = size(row, 4, bytes.len());
+fn reparse(row: &[u8], store: &[u8], output: &mut [u8]) {
     let room = size(row, 5, output.len());
     let v = volume(0, 0, word(row, 1), word(row, 2));
-    let f = file(0, 0, 0, 0, word(row, 3));
-    let answer = reparse_point::get_reparse_point(v, f, &bytes[..n], &mut output[..room]);
+    let f = file(0, 0, 0, 0, word(row, 3), number(row, 4));
+    let answer = reparse_point::get_reparse_point(v, f, store, &mut output[..room]);
     told(b"reparse", answer, output);
 }
 
@@ -132,7 +132,7 @@ fn usn_of(
     let room = size(row, 7, output.len());
     let k = size(row, 8, shorts.len());
     let v = volume(word(row, 1), 0, 0, 0);
-    let f = file(number(row, 2), word(row, 3), 0, 0, 0);
+    let f = file(number(row, 2), word(row, 3), 0, 0, 0, 0);
     let parent = id_of(number(row, 4));
     let answer = file_usn::read_file_usn(
         v,

@@ -14,4 +14,6 @@ pub struct FileRecord {
     // the reparse tag, 0 for none, and the GUID that goes with a tag that is not Microsoft's
     pub tag: u32,
     pub guid: [u8; 16],
+    // how many bytes of the lent store are the reparse data
+    pub length: u64,
 }

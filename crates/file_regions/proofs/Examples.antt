@@ -25,7 +25,7 @@ volume = record { usn = 0; regions = 1; reparse = 0; points = 0; journal = 0; st
 
 -- a file with this Eof and Vdl
 abbrev pub file : ℕ → ℕ → FileRecord
-file eof vdl = record { id = replicate 16 0; attributes = 0; usn = 0; eof = eof; valid = vdl; tag = 0; guid = replicate 16 0 }
+file eof vdl = record { id = replicate 16 0; attributes = 0; usn = 0; eof = eof; valid = vdl; tag = 0; guid = replicate 16 0; length = 0 }
 
 -- a number below 256 as the bytes of 4 and of 8, written out
 abbrev pub four : ℕ → List ℕ

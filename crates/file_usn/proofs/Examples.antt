@@ -18,7 +18,7 @@ abbrev pub disk : Volume
 disk = record { usn = 1; regions = 0; reparse = 0; points = 0; journal = 0; state = 0; id = 0; first = 0; last = 0; capacity = 0 }
 
 abbrev pub file : FileRecord
-file = record { id = 5 ∷ replicate 15 0; usn = 1024; eof = 0; valid = 0; attributes = 32; tag = 0; guid = replicate 16 0 }
+file = record { id = 5 ∷ replicate 15 0; usn = 1024; eof = 0; valid = 0; attributes = 32; tag = 0; guid = replicate 16 0; length = 0 }
 
 -- the room, the reply, and how many bytes it counts
 pub record Example : Type 0 where
@@ -65,6 +65,7 @@ wideFile =
       attributes = 32;
       tag = 0;
       guid = replicate 16 0;
+      length = 0;
     }
 
 abbrev pub wideBytes : List ℕ

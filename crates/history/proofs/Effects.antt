@@ -1,8 +1,8 @@
 -- What a call does to the journal, by its effect: one relation over effects, and one law with a row for each call.
 -- Assumes nothing.
-use mathlib.Core.Path.{_≡_, refl, ap, _∙_}
+use mathlib.Core.Path.{_≡_, refl, sym, ap, _∙_}
 use mathlib.Core.Logic.{_⊎_, inl, inr}
-use mathlib.Core.Bool.{Bool, true, false, not, and-false, _&&_, _||_}
+use mathlib.Core.Bool.{Bool, true, false, not, and-false, cond, _&&_, _||_}
 use mathlib.Core.Option.{Option, none, some}
 use mathlib.Core.List.{List, [], _∷_, map}
 use Prim.Native.Nat.{ℕ}
@@ -13,20 +13,26 @@ use Rattle.le.specs.Bytes.{Bytes}
 use Rattle.le.proofs.Runs.{and-left, and-right}
 use Rattle.status.specs.declared.Status.{Status}
 use Rattle.status.specs.declared.Status.the-variants.{Success, InvalidParameter, FileCorruptError, JournalDeleteInProgress, JournalNotActive}
-use Rattle.status.specs.Check.{unless, else}
+use Rattle.status.specs.Check.{unless, else, passes, settled}
 use Rattle.volume.specs.declared.Volume.{Volume}
 use Rattle.volume.specs.State.{supported, isActive, isDeleting, goodCapacity, goodPosition}
 use Rattle.volume.specs.Calls.{performed, inState, atPositions, createCheck, created, deleteOutcome, finishCheck}
 use Rattle.usn_record.specs.Layout.{Record}
 use Rattle.records.proofs.Runs.{AllSound}
+use Rattle.journal_post.specs.declared.Verdict.{Verdict}
+use Rattle.journal_post.specs.declared.Verdict.the-variants.{Skip, Reject, Accept}
+use Rattle.journal_post.specs.Post.{verdict, leaves}
 use Rattle.journal_post.specs.Posts.{Journal, Posting, afterPost, afterPosts}
 use Rattle.image.specs.Image.{Image}
 use Rattle.image.specs.Forms.{stored}
 use Rattle.image.proofs.RoundTrip.{fitting}
 use Rattle.image.proofs.Forms.{stored-fit, stored-storable}
-use Rattle.image_load.specs.Load.{postingOf, restored, settled, loadCheck}
+use Rattle.image_load.specs.Load.{postingOf, restored, loadCheck}
 use Rattle.image_load.proofs.Restoring.{load-none, load-passed, load-succeeds, created-made}
-use Rattle.history.specs.Calls.{Call, create, post, read, delete, finish, save, load, Called, leaving, called, Effect, opens, posts, closes, nothing, loadEffect, effect, Widths, Typed}
+use Rattle.reparse_point.specs.Reparse.{pointsCheck}
+use Rattle.reparse_update.specs.declared.Update.{Update}
+use Rattle.reparse_update.specs.Update.{Point, givenCheck, pointPosting, rejection, updateCheck, leftBy}
+use Rattle.history.specs.Calls.{Call, create, post, read, delete, finish, save, load, update, Called, leaving, called, Effect, opens, posts, pointPosts, closes, nothing, loadEffect, updateEffect, effect, Widths, Typed}
 
 pub clash : {A : Type 0} → _≡_ {A = ℕ} 0 1 → A
 clash z = absurd (omega arith)
@@ -60,6 +66,7 @@ pub record Opens (j : Journal) (p id : ℕ) (ps : List Posting) (k : Journal) : 
 abbrev pub Does : Journal → Effect → Called → Type 0
 Does j (opens at id ps) k = (k .status ≡ Success → Opens j (at (j .volume)) id ps (k .journal)) × ((k .status ≡ Success → ⊥) → k .journal ≡ j)
 Does j (posts p) k = k .journal ≡ afterPost j p
+Does j (pointPosts p) k = k .journal ≡ cond (passes (pointsCheck (j .volume))) (afterPost j p) j
 Does j (closes id) k = k .journal ≡ afterDelete j id
 Does j nothing k = (k .journal ≡ j) ⊎ ((usable j ≡ false) × (usable (k .journal) ≡ false))
 
@@ -149,6 +156,33 @@ module _ (j : Journal) (s : List ℕ) (id : ℕ) where
       by none e = inl (loads-none e)
       by (some i) e = (loads-some i e, ends-refused check (some i))
 
+-- a set or a delete of a reparse point, by what its checks come to: a refusal leaves the journal, and so would the post that it comes from
+module _ (j : Journal) (u : Update) (p : Point) (q : Posting) (input : List ℕ) where
+  abbrev sets : Option Status → Point → Called
+  sets o k = let l = leftBy o j p (afterPost j (pointPosting q)) k in record { status = l .status; journal = l .journal }
+
+  abbrev judgement : Verdict
+  judgement = verdict (j .volume) (j .ring) (pointPosting q .change) (q .name)
+
+  abbrev posted : Option Status → Journal
+  posted o = cond (passes o) (afterPost j (pointPosting q)) j
+
+  rejects : (d : Verdict) (v w : Volume) (r s : List ℕ) (k : Point)
+      → leftBy (rejection d) (with v r) p (with (leaves d v w) (leaves d r s)) k .journal ≡ with (leaves d v w) (leaves d r s)
+  rejects Skip v w r s k = refl
+  rejects (Reject x) v w r s k = refl
+  rejects Accept v w r s k = refl
+
+  update-does : Does j (effect (update u p q input)) (called j (update u p q input))
+  unfolding updateCheck
+  update-does = by (pointsCheck (j .volume)) (givenCheck u (p .file) (length (p .store)) input) _ refl
+    where
+      by : (a b : Option Status) (k : Point) → pointsCheck (j .volume) ≡ a → Does j (updateEffect b (pointPosting q)) (sets (else a (else b (rejection judgement))) k)
+      by none none k e = rejects judgement (j .volume) _ (j .ring) _ k ∙ sym (ap posted e)
+      by (some x) none k e = sym (ap posted e)
+      by none (some y) k e = inl refl
+      by (some x) (some y) k e = inl refl
+
 pub does : (j : Journal) (c : Call) → Does j (effect c) (called j c)
 does j (create id) = (create-opens j id, create-refused j id)
 does j (post p) = refl
@@ -157,6 +191,7 @@ does j (delete id) = refl
 does j finish = finish-does j
 does j (save form room) = inl refl
 does j (load s id) = load-does j s id
+does j (update u p q input) = update-does j u p q input
 
 -- ---- the arguments of a call give its effect's postings their types
 
@@ -167,6 +202,7 @@ AllWidths (p ∷ ps) = Widths (p .change) × AllWidths ps
 abbrev pub TypedEffect : Effect → Type 0
 TypedEffect (opens at id ps) = AllWidths ps
 TypedEffect (posts p) = Widths (p .change)
+TypedEffect (pointPosts p) = Widths (p .change)
 TypedEffect (closes id) = Unit {0}
 TypedEffect nothing = Unit {0}
 
@@ -188,3 +224,8 @@ typed-effect (delete id) t = tt
 typed-effect finish t = tt
 typed-effect (save form room) t = tt
 typed-effect (load s id) t = load-typed s id (stored s) t refl
+typed-effect (update u p q input) t = by (givenCheck u (p .file) (length (p .store)) input)
+  where
+    by : (o : Option Status) → TypedEffect (updateEffect o (pointPosting q))
+    by none = record { file = t .file; parent = t .parent; time = t .time; reason = omega arith; source = t .source; security = t .security; attributes = t .attributes }
+    by (some x) = tt

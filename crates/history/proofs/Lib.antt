@@ -7,3 +7,4 @@ pub mod Readers
 pub mod Whole
 pub mod Examples
 pub mod WideIds
+pub mod Points

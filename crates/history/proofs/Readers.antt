@@ -17,7 +17,7 @@ use Rattle.le.proofs.Runs.{and-left, and-right}
 use Rattle.status.specs.declared.Status.{Status}
 use Rattle.status.specs.declared.Status.the-variants.{Success, InvalidDeviceRequest, FileCorruptError, JournalDeleteInProgress, JournalNotActive, JournalEntryDeleted}
 use Rattle.status.specs.Number.{number}
-use Rattle.status.specs.Check.{unless, else}
+use Rattle.status.specs.Check.{unless, else, passes}
 use Rattle.status.specs.Reply.{Reply, refuse, give, guard, answer}
 use Rattle.status.proofs.Checking.{else-none, unless-true, Never}
 use Rattle.status.proofs.Numbers.{same-status}
@@ -37,7 +37,7 @@ use Rattle.journal_post.specs.Posts.{Journal}
 use Rattle.history.specs.Calls.{Read, read, replyTo, statusOf, next, Typed, AllTyped}
 use Rattle.history.specs.Log.{History, posted, note, notes}
 use Rattle.history.specs.Reading.{Received, Reader, advanced, told, Turn, mine, other, callOf, hears, follow, Carries, Own, Chosen, Hold}
-use Rattle.history.specs.Demand.{filter, between, CreatesNone, NoCreation, DroppedAbove, isNone, wellFormed}
+use Rattle.history.specs.Demand.{filter, between, CreatesNone, NoCreation, DroppedAbove, wellFormed}
 use Rattle.journal_page.proofs.Giving.{page-stops, given-shown}
 use Rattle.journal_post.proofs.Links.{Chain, chain-le, chain-append}
 use Rattle.history.proofs.Effects.{clash, usable}
@@ -100,7 +100,7 @@ guard-inv : (o : Option Status) (k : Reply) (x : Status) (bytes : List ℕ) → 
 guard-inv none k x bytes h = (refl, h)
 guard-inv (some y) k x bytes h = clash cc
 
-none-is : (o : Option Status) → isNone o ≡ true → o ≡ none
+none-is : (o : Option Status) → passes o ≡ true → o ≡ none
 none-is none h = refl
 none-is (some x) h = clash cc
 

@@ -5,11 +5,13 @@ use mathlib.Core.Bool.{true, false}
 use mathlib.Core.List.{List, [], _++_}
 use Prim.Native.Nat.{ℕ, _-_, _%_, _^_, _≤_, _<_}
 use lib.ListN.{length}
+use Rattle.status.specs.Check.{passes}
 use Rattle.volume.specs.State.{supported, isActive, goodCapacity}
 use Rattle.usn_record.specs.Layout.{Record}
 use Rattle.records.specs.Records.{joined}
 use Rattle.journal.specs.Kept.{keptBytes}
 use Rattle.journal_post.specs.Posts.{Journal}
+use Rattle.reparse_point.specs.Reparse.{pointsCheck}
 use Rattle.history.specs.Log.{History, posted}
 use Rattle.journal_post.proofs.Links.{Chain}
 use Rattle.history.proofs.Effects.{usable}
@@ -23,6 +25,7 @@ pub record Live (j : Journal) (h : History) : Type 0 where
   pub id : j .volume .id ≡ h .id
   pub first : j .volume .first ≡ h .first
   pub last : j .volume .last ≡ h .end
+  pub points : passes (pointsCheck (j .volume)) ≡ h .points
   pub bytes : keptBytes (j .volume) (j .ring) ≡ joined (h .left)
 
 -- a history's records are chains that fit the capacity, whether it is live or not

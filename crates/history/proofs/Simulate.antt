@@ -13,7 +13,7 @@ use borrow.Author.Tests.{ltb-true, eqb-true, eq-eqb}
 use Rattle.le.proofs.Runs.{and-left, and-right}
 use Rattle.status.specs.declared.Status.{Status}
 use Rattle.status.specs.declared.Status.the-variants.{Success, InvalidParameter, FileCorruptError, JournalDeleteInProgress, JournalNotActive, DiskFull}
-use Rattle.status.specs.Check.{unless, else}
+use Rattle.status.specs.Check.{unless, else, passes}
 use Rattle.ring.specs.Ring.{placed}
 use Rattle.volume.specs.declared.Volume.{Volume}
 use Rattle.volume.specs.State.{supported, isActive, activeCheck, goodCapacity, goodPosition}
@@ -32,8 +32,9 @@ use Rattle.journal_post.specs.declared.Verdict.{Verdict}
 use Rattle.journal_post.specs.declared.Verdict.the-variants.{Skip, Reject, Accept}
 use Rattle.journal_post.specs.Post.{skipped, postedName, endOf, postCheck, checked, verdict, leaves, recordOf, postedVolume, postedRing}
 use Rattle.journal_post.specs.Posts.{Journal, Posting, afterPost, afterPosts}
-use Rattle.history.specs.Calls.{Call, Called, called, statusOf, next, runs, Effect, opens, posts, closes, nothing, effect, Widths, Typed, AllTyped}
-use Rattle.history.specs.Log.{History, posted, opened, endWith, isPosted, Shed, shed, shedTo, added, closed, notePost, notePosts, noteDelete, noteEffect, note, notes, openedBy, opening}
+use Rattle.reparse_point.specs.Reparse.{pointsCheck}
+use Rattle.history.specs.Calls.{Call, Called, called, statusOf, next, runs, Effect, opens, posts, pointPosts, closes, nothing, effect, Widths, Typed, AllTyped}
+use Rattle.history.specs.Log.{History, posted, opened, endWith, isPosted, Shed, shed, shedTo, added, closed, notePost, notePosts, notePoint, noteDelete, noteEffect, note, notes, openedBy, opening}
 use Rattle.history.specs.Demand.{isOpening, CreatesNone, NoCreation}
 use Rattle.journal_post.proofs.Links.{Link, Chain, chain-append, chain-eight}
 use Rattle.history.proofs.Effects.{clash, and-true, usable, with, emptied, afterDelete, Does, either, unusable, does, AllWidths, TypedEffect, typed-effect}
@@ -204,6 +205,7 @@ module _ (j : Journal) (h : History) (m : Sim j h) (l : Live j h) (c : Change) (
           id = l .id;
           first = refl;
           last = refl;
+          points = l .points;
           bytes = after-kept .1;
         };
         dead = λ q. let l : h .live ≡ true = p .live in clash cc;
@@ -283,6 +285,10 @@ leaves-both Accept v w r s = refl
 pub active-none : (v : Volume) → isActive v ≡ true → activeCheck v ≡ none
 active-none v e = ap (λ (x : ℕ). else (unless (not (eqb x 2)) JournalDeleteInProgress) (unless (eqb x 1) JournalNotActive)) (eqb-true (v .state) 1 e)
 
+cond-same : {A : Type 0} (b : Bool) {x y : A} → x ≡ y → cond b x y ≡ y
+cond-same true e = e
+cond-same false e = refl
+
 note-posted : (h : History) (p : Posting) (b : Bool) → isPosted h (p .change) (p .name) ≡ b → notePost h p ≡ cond b (added h (p .change) (p .name)) h
 unfolding notePost
 note-posted h p b q = rw q
@@ -314,9 +320,12 @@ module _ (j : Journal) (h : History) (m : Sim j h) where
     post-live w v true q = added-next j h m (m .live v) (p .change) (p .name) w (accepted h (p .change) (p .name) v q)
     post-live w v false q = stay
 
-    posted-dead : h .live ≡ false → isPosted h (p .change) (p .name) ≡ false
+    post-dead : h .live ≡ false → afterPost j p ≡ j
+    post-dead v = post-is ∙ dead-post j (p .change) (p .name) (m .dead v) j (written j (p .change) (p .name))
+
+    note-dead : h .live ≡ false → notePost h p ≡ h
     unfolding isPosted
-    posted-dead v = rw v
+    note-dead v = note-posted h p false (rw v)
 
     post-step : Widths (p .change) → Next (afterPost j p) (notePost h p)
     post-step w = by (h .live) refl
@@ -325,8 +334,20 @@ module _ (j : Journal) (h : History) (m : Sim j h) where
         by true v =
             subst₂ Next (sym (post-is ∙ live-post j h m (m .live v) v (p .change) (p .name) j (written j (p .change) (p .name)))) (sym (note-posted h p _ refl))
             (post-live w v (isPosted h (p .change) (p .name)) refl)
+        by false v = subst₂ Next (sym (post-dead v)) (sym (note-dead v)) stay
+
+    -- the post of a set or a delete of a reparse point
+    point-step : Widths (p .change) → Next (cond (passes (pointsCheck (j .volume))) (afterPost j p) j) (notePoint h p)
+    point-step w = by (h .live) refl
+      where
+        both : (b : Bool) → Next (cond b (afterPost j p) j) (cond b (notePost h p) h)
+        both true = post-step w
+        both false = stay
+
+        by : (v : Bool) → h .live ≡ v → Next (cond (passes (pointsCheck (j .volume))) (afterPost j p) j) (notePoint h p)
+        by true v = subst (λ (b : Bool). Next (cond b (afterPost j p) j) (notePoint h p)) (sym (m .live v .points)) (both (h .points))
         by false v =
-            subst₂ Next (sym (post-is ∙ dead-post j (p .change) (p .name) (m .dead v) j (written j (p .change) (p .name)))) (sym (note-posted h p false (posted-dead v))) stay
+            subst₂ Next (sym (cond-same (passes (pointsCheck (j .volume))) (post-dead v))) (sym (cond-same (h .points) (note-dead v))) stay
 
   -- a deletion
   module _ (id : ℕ) where
@@ -374,6 +395,7 @@ module _ (j : Journal) (h : History) (m : Sim j h) where
   effect-step : (e : Effect) (k : Called) → Does j e k → TypedEffect e → (isOpening e ≡ true → k .status ≡ Success → ⊥) → Next (k .journal) (noteEffect h e)
   effect-step (opens at id ps) k d t r = subst (λ (x : Journal). Next x h) (sym (d .1 (r refl))) stay
   effect-step (posts p) k d t r = subst (λ (x : Journal). Next x (notePost h p)) (sym d) (post-step p t)
+  effect-step (pointPosts p) k d t r = subst (λ (x : Journal). Next x (notePoint h p)) (sym d) (point-step p t)
   effect-step (closes id) k d t r = subst (λ (x : Journal). Next x (noteDelete h id)) (sym d) (delete-step id)
   effect-step nothing k (inl d) t r = subst (λ (x : Journal). Next x h) (sym d) stay
   effect-step nothing k (inr d) t r = nothing-step (k .journal) (d .0) (d .1)
@@ -398,6 +420,7 @@ module _ (j : Journal) (p id : ℕ) (cap : goodCapacity (j .volume .capacity) �
           id = refl;
           first = refl;
           last = refl;
+          points = refl;
           bytes = empty-kept (emptied j p id .volume) (j .ring) refl;
         };
         dead = λ q. q;
@@ -415,6 +438,7 @@ effect-opens j (opens at id ps) k h d t s o =
     let z : notePosts (opened (j .volume) (length (j .ring)) p id) ps ≡ h = cc in
     subst₂ Sim (sym (g .journal)) z (posts-sim ps (emptied j p id) (opened (j .volume) (length (j .ring)) p id) (opened-sim j p id (g .capacity) (g .position)) t)
 effect-opens j (posts p) k h d t s o = clash cc
+effect-opens j (pointPosts p) k h d t s o = clash cc
 effect-opens j (closes id) k h d t s o = clash cc
 effect-opens j nothing k h d t s o = clash cc
 

@@ -9,9 +9,10 @@ use native.Mathlib.Omega.{arith}
 use lib.Dec.{leb}
 use lib.ListN.{length}
 use Rattle.status.specs.declared.Status.{Status}
-use Rattle.status.specs.declared.Status.the-variants.{Success, BufferOverflow, InvalidParameter, InvalidDeviceRequest, BufferTooSmall, UnknownRevision, DiskFull, NotSupported, FileCorruptError, NotAReparsePoint, VolumeNotUpgraded, JournalDeleteInProgress, JournalNotActive, JournalEntryDeleted}
+use Rattle.status.specs.declared.Status.the-variants.{Success, BufferOverflow, InvalidParameter, InvalidDeviceRequest, BufferTooSmall, UnknownRevision, DiskFull, NotSupported, FileCorruptError, NotAReparsePoint, IoReparseTagInvalid, IoReparseTagMismatch, IoReparseDataInvalid, VolumeNotUpgraded, ReparseAttributeConflict, JournalDeleteInProgress, JournalNotActive, JournalEntryDeleted}
 use Rattle.status.specs.Number.{number}
 use Rattle.status.proofs.Checking.{Never, never-none, never-cond, nevers}
+use Rattle.status.specs.Check.{settled}
 use Rattle.usn_record.specs.declared.Version.{Version}
 use Rattle.usn_record.specs.Layout.{Record}
 use Rattle.record_writer.specs.Write.{writeCheck}
@@ -32,15 +33,16 @@ use Rattle.file_regions.specs.Regions.{askedCheck, regionsCheck, regionsOf, lis
 use Rattle.file_regions.proofs.Writing.{length-front}
 use Rattle.file_regions.proofs.Checked.{few}
 use Rattle.reparse_point.specs.Reparse.{reparseCheck, reparseReply}
-use Rattle.journal_post.specs.Posts.{Journal}
-use Rattle.image.specs.Image.{Image}
+use Rattle.journal_post.specs.Posts.{Journal, Posting}
 use Rattle.image.specs.Image.{Image}
 use Rattle.image.specs.Forms.{formVersion, formCheck}
 use Rattle.image_writer.specs.Write.{imageReply}
 use Rattle.image_save.specs.Save.{saveCheck, saveAs, saveReply}
 use Rattle.image_move.specs.Move.{movedReply, moveFrom, moveReply}
-use Rattle.image_load.specs.Load.{settled, fitCheck, imageCheck, loadCheck}
-use Rattle.history.specs.Calls.{Call, create, post, read, delete, finish, save, load, statusOf, next}
+use Rattle.image_load.specs.Load.{fitCheck, imageCheck, loadCheck}
+use Rattle.reparse_update.specs.declared.Update.{Update}
+use Rattle.reparse_update.specs.Update.{givenCheck, rejection, Point, updateCheck, leftBy, updated}
+use Rattle.history.specs.Calls.{Call, create, post, read, delete, finish, save, load, update, statusOf, next}
 use Rattle.refusals.proofs.Replies.{refutes, Fair, fair-give, fair-warn, fair-guard, fair-leb, fairs, fair-never}
 use Rattle.refusals.specs.Refusal.{isWarning, isRefusal, Control, readJournal, saveJournal, moveImage, readFile, readFileTable, queryRegions, getReparsePoint, listRecords, listImage, writeRecord, copyRecord, copyOlder, replyOf, usnAfter, Warned, Refusals}
 
@@ -55,7 +57,11 @@ refusals-are-errors DiskFull = refl
 refusals-are-errors NotSupported = refl
 refusals-are-errors FileCorruptError = refl
 refusals-are-errors NotAReparsePoint = refl
+refusals-are-errors IoReparseTagInvalid = refl
+refusals-are-errors IoReparseTagMismatch = refl
+refusals-are-errors IoReparseDataInvalid = refl
 refusals-are-errors VolumeNotUpgraded = refl
+refusals-are-errors ReparseAttributeConflict = refl
 refusals-are-errors JournalDeleteInProgress = refl
 refusals-are-errors JournalNotActive = refl
 refusals-are-errors JournalEntryDeleted = refl
@@ -139,6 +145,10 @@ posted-refusal Skip old new h = refl
 posted-refusal (Reject x) old new h = refl
 posted-refusal Accept old new h = refutes false refl h
 
+left-refusal : (k : Option Status) (j i : Journal) (p f : Point) → isRefusal (leftBy k j p i f .status) ≡ true → (leftBy k j p i f .journal ≡ j) × (leftBy k j p i f .point ≡ p)
+left-refusal none j i p f h = refutes false refl h
+left-refusal (some x) j i p f h = (refl, refl)
+
 -- the journal, from its two parts
 same : (j : Journal) {v : Volume} {ring : List ℕ} → v ≡ j .volume → ring ≡ j .ring → _≡_ {A = Journal} (record { volume = v; ring = ring }) j
 same j e q = ap₂ (λ (v : Volume) (ring : List ℕ). record { volume = v; ring = ring }) e q
@@ -155,6 +165,10 @@ call-refusal j (save form room) usn h = (refl, refl)
 call-refusal j (load s id) usn h =
     let k = loadCheck (j .volume) (length (j .ring)) s id in
     (same j (performed-refusal k _ _ h) (settled-refusal k _ _ _ _ h), refl)
+call-refusal j (update u p q input) usn h = (left-refusal (updateCheck u j p q input) j _ p _ h .0, refl)
+
+point-refusal : (j : Journal) (u : Update) (p : Point) (q : Posting) (input : List ℕ) → isRefusal (statusOf j (update u p q input)) ≡ true → updated u j p q input .point ≡ p
+point-refusal j u p q input h = left-refusal (updateCheck u j p q input) j _ p _ h .1
 
 -- ---- no call on the journal warns
 
@@ -172,8 +186,17 @@ posted-never true k c = refl
 posted-never false none c = refl
 posted-never false (some x) c = c .other
 
+rejected-never : (t : Bool) (k : Option Status) → Never BufferOverflow k → Never BufferOverflow (rejection (cond t Skip (checked k)))
+rejected-never true k c = never-none
+rejected-never false none c = never-none
+rejected-never false (some x) c = c
+
+left-never : (k : Option Status) (j i : Journal) (p f : Point) → Never BufferOverflow k → isWarning (leftBy k j p i f .status) ≡ false
+left-never none j i p f c = refl
+left-never (some x) j i p f c = c .other
+
 call-never : (j : Journal) (c : Call) → isWarning (statusOf j c) ≡ false
-unfolding verdict postCheck loadCheck formCheck
+unfolding verdict postCheck loadCheck formCheck givenCheck updateCheck
 call-never j (create id) = performed-never (createCheck (j .volume) id) _ _ (search nevers)
 call-never j (post p) = posted-never (skipped (j .volume) (p .change)) (postCheck (j .volume) (j .ring) (p .name)) (search nevers)
 call-never j (read a) = fair-never (fair-read (j .volume) (j .ring) (a .input) (a .room))
@@ -181,6 +204,7 @@ call-never j (delete id) = performed-never (deleteCheck (j .volume) id) _ _ (sea
 call-never j finish = performed-never (finishCheck (j .volume)) _ _ (search nevers)
 call-never j (save form room) = fair-never (fair-save (j .volume) (j .ring) form room)
 call-never j (load s id) = performed-never (loadCheck (j .volume) (length (j .ring)) s id) _ _ (search (nevers, never-image) depth 8)
+call-never j (update u p q input) = left-never (updateCheck u j p q input) j _ p _ (search (nevers, rejected-never) depth 12)
 
 pub refusals : Refusals
 refusals =
@@ -189,5 +213,6 @@ refusals =
       controls = λ c room. fair-control c room .refused;
       warnings = λ c room. fair-control c room .warned;
       calls = call-refusal;
+      points = point-refusal;
       unwarned = call-never;
     }

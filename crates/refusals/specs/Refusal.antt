@@ -23,8 +23,10 @@ use Rattle.file_usn.specs.FileUsn.{fileReply, tableReply}
 use Rattle.file_regions.specs.Regions.{regionsReply}
 use Rattle.reparse_point.specs.Reparse.{reparseReply}
 use Rattle.journal_post.specs.Post.{postUsn}
-use Rattle.journal_post.specs.Posts.{Journal}
-use Rattle.history.specs.Calls.{Call, create, post, read, delete, finish, save, load, statusOf, next}
+use Rattle.journal_post.specs.Posts.{Journal, Posting}
+use Rattle.reparse_update.specs.declared.Update.{Update}
+use Rattle.reparse_update.specs.Update.{Point, updated}
+use Rattle.history.specs.Calls.{Call, create, post, read, delete, finish, save, load, update, statusOf, next}
 
 -- the warning
 abbrev pub isWarning : Status → Bool
@@ -50,7 +52,7 @@ pub data Control : Type 0 where
   readFileTable : Volume → FileRecord → List ℕ → List ℕ → List ℕ → List ℕ → List ℕ → List ℕ → Control
   -- volume record, file record, input
   queryRegions : Volume → FileRecord → List ℕ → Control
-  -- volume record, file record, reparse data
+  -- volume record, file record, store of the reparse data
   getReparsePoint : Volume → FileRecord → List ℕ → Control
   -- a reply of the journal
   listRecords : List ℕ → Control
@@ -70,7 +72,7 @@ replyOf (moveImage s from) room = moveReply from s room
 replyOf (readFile v f parent pool links input) room = fileReply v f parent pool links input room
 replyOf (readFileTable v f parent pool places lengths shorts input) room = tableReply v f parent pool places lengths shorts input room
 replyOf (queryRegions v f input) room = regionsReply v f input room
-replyOf (getReparsePoint v f bytes) room = reparseReply v f bytes room
+replyOf (getReparsePoint v f store) room = reparseReply v f store room
 replyOf (listRecords s) room = listReply s room
 replyOf (listImage s) room = listImageReply s room
 replyOf (writeRecord v f name) room = writeReply v f name room
@@ -79,7 +81,7 @@ replyOf (copyOlder bytes) room = olderReply bytes room
 
 -- ---- what changes records
 
--- the file's Usn after a call on the journal: only a post writes it
+-- the file's Usn after a call on the journal: only a post writes it; the Usn that a set or a delete writes is in the file's record
 abbrev pub usnAfter : Journal → Call → ℕ → ℕ
 usnAfter j (create id) usn = usn
 usnAfter j (post p) usn = postUsn (j .volume) (j .ring) (p .change) (p .name) usn
@@ -88,6 +90,7 @@ usnAfter j (delete id) usn = usn
 usnAfter j finish usn = usn
 usnAfter j (save form room) usn = usn
 usnAfter j (load s id) usn = usn
+usnAfter j (update u p q input) usn = usn
 
 -- ---- the promise
 
@@ -110,5 +113,7 @@ pub record Refusals : Type 0 where
   pub warnings : (c : Control) (room : ℕ) → isWarning (answer (replyOf c room) .status) ≡ true → Warned c room
   -- a call that refuses leaves the volume record, the ring and the file's Usn
   pub calls : (j : Journal) (c : Call) (usn : ℕ) → isRefusal (statusOf j c) ≡ true → (next j c ≡ j) × (usnAfter j c usn ≡ usn)
+  -- a set or a delete of a reparse point that refuses leaves the file's record and its store
+  pub points : (j : Journal) (u : Update) (p : Point) (q : Posting) (input : List ℕ) → isRefusal (statusOf j (update u p q input)) ≡ true → updated u j p q input .point ≡ p
   -- and none of these warns
   pub unwarned : (j : Journal) (c : Call) → isWarning (statusOf j c) ≡ false

@@ -13,18 +13,18 @@ use borrow.Author.Tests.{leb-true, le-leb, lt-leb}
 use denote.Laws.{Is}
 use denote.Struct.Laws.{vals, owed}
 use Rattle.le.specs.Numbers.{le, encode}
+use Rattle.le.proofs.Runs.{and-left, and-right}
 use Rattle.le.proofs.Tail.{lent, back, Put, put-first, put-next}
-use Rattle.status.specs.declared.Status.the-variants.{Success, InvalidDeviceRequest, BufferTooSmall, FileCorruptError, NotAReparsePoint, VolumeNotUpgraded}
+use Rattle.status.specs.declared.Status.the-variants.{Success, BufferTooSmall, FileCorruptError, NotAReparsePoint}
 use Rattle.status.specs.declared.Answer.{Answer}
 use Rattle.status.specs.Check.{unless, else}
 use Rattle.status.specs.Reply.{give, Replied}
 use Rattle.status.proofs.Checking.{else-none, else-right, unless-true}
 use Rattle.volume.specs.declared.Volume.{Volume}
-use Rattle.volume.specs.State.{supported}
 use Rattle.file_record.specs.declared.FileRecord.{FileRecord}
 use Rattle.file_record.proofs.FileRecord.{the-row, the-type}
 use Rattle.file_record.proofs.FileRecord.Laws.{the-laws}
-use Rattle.reparse_point.specs.Reparse.{mostData, headerLength, reparseHeader, reparseCheck, reparseBytes}
+use Rattle.reparse_point.specs.Reparse.{mostData, headerLength, reparseHeader, pointsCheck, goodPoint, dataOf, reparseCheck, reparseBytes}
 
 -- ---- the header
 
@@ -134,26 +134,40 @@ most-least tag = by (eqb tag 0) (leb (2 ^ 31) tag) refl refl
     by false true d e = rw (d, e) (omega arith)
     by false false d e = rw (d, e) (omega arith)
 
-module _ (v : Volume) (f : FileRecord) (bytes : List ℕ) (room : ℕ) where
-  -- the checks leave room for the header, and no more data than its length can say
-  pub passed-fits : reparseCheck v f bytes room ≡ none → (headerLength (f .tag) ≤ room) × (length bytes ≤ 16376)
+-- a right file record's data lies within the store, and its length is one that a header can say
+pub point-fits : (f : FileRecord) (n : ℕ) → goodPoint f n ≡ true → (f .length ≤ n) × (f .length ≤ 16376)
+unfolding goodPoint
+point-fits f n g =
+    let a : 16376 ≤ n = leb-true _ _ (and-left (leb 16376 n) _ g) in
+    let b : f .length ≤ mostData (f .tag) = leb-true _ _ (and-right (leb 16376 n) _ g) in
+    let c : f .length ≤ 16376 = omega (arith, b, most-least (f .tag)) in
+    (omega (arith, a, c), c)
+
+module _ (v : Volume) (f : FileRecord) (n room : ℕ) where
+  -- the checks leave a right file record and room for the header
+  pub passed-fits : reparseCheck v f n room ≡ none → (headerLength (f .tag) ≤ room) × (f .length ≤ n) × (f .length ≤ 16376)
   unfolding reparseCheck
   passed-fits p =
       let last = unless (leb (headerLength (f .tag)) room) BufferTooSmall in
       let tag = unless (not (eqb (f .tag) 0)) NotAReparsePoint in
-      let most = unless (leb (length bytes) (mostData (f .tag))) FileCorruptError in
-      let a = else-right (unless (supported (v .reparse)) InvalidDeviceRequest) (else (unless (supported (v .points)) VolumeNotUpgraded) (else most (else tag last))) p in
-      let k = else-none most (else tag last) (else-right (unless (supported (v .points)) VolumeNotUpgraded) (else most (else tag last)) a) in
-      let d : length bytes ≤ mostData (f .tag) = leb-true _ _ (unless-true (leb (length bytes) (mostData (f .tag))) FileCorruptError (k .0)) in
-      (leb-true _ _ (unless-true (leb (headerLength (f .tag)) room) BufferTooSmall (else-right tag last (k .1))), omega (arith, d, most-least (f .tag)))
+      let good = unless (goodPoint f n) FileCorruptError in
+      let k = else-none good (else tag last) (else-right (pointsCheck v) (else good (else tag last)) p) in
+      let g = point-fits f n (unless-true (goodPoint f n) FileCorruptError (k .0)) in
+      (leb-true _ _ (unless-true (leb (headerLength (f .tag)) room) BufferTooSmall (else-right tag last (k .1))), g .0, g .1)
 
-pub reply-given : (f : FileRecord) (bytes o : List ℕ) (count : ℕ) (r : Answer) (out : List ℕ) → length (f .guid) ≡ 16
+pub reply-given : (f : FileRecord) (store bytes o : List ℕ) (count : ℕ) (r : Answer) (out : List ℕ) → length (f .guid) ≡ 16 → f .length ≤ length store → bytes ≡ dataOf f store
     → count ≡ headerLength (f .tag) + length (take (length o - headerLength (f .tag)) bytes)
     → out ≡ (reparseHeader (f .tag) (f .guid) (length bytes) ++ take (length o - headerLength (f .tag)) bytes) ++ drop count o → r ≡ record { status = Success; count = count }
-    → Replied (give Success (reparseBytes f bytes (length o))) r o out
+    → Replied (give Success (reparseBytes f store (length o))) r o out
 unfolding reparseBytes
-reply-given f bytes o count r out g n e a =
+reply-given f store bytes o count r out g h b n e a =
+    let size : length bytes ≡ f .length = ap length b ∙ length-take-le (f .length) store h in
     let head : List ℕ = reparseHeader (f .tag) (f .guid) (length bytes) in
     let kept : List ℕ = take (length o - headerLength (f .tag)) bytes in
     let l : count ≡ length (head ++ kept) = n ∙ sym (length-append head kept ∙ ap (λ (i : ℕ). i + length kept) (header-size (f .tag) (length bytes) (f .guid) g)) in
-    record { answered = a ∙ ap (λ (i : ℕ). record { status = Success; count = i }) l; output = e ∙ ap (λ (i : ℕ). (head ++ kept) ++ drop i o) l }
+    let same : head ++ kept ≡ reparseBytes f store (length o) =
+    ap₂ (λ (i : ℕ) (x : List ℕ). reparseHeader (f .tag) (f .guid) i ++ take (length o - headerLength (f .tag)) x) size b in
+    record {
+      answered = a ∙ ap (λ (i : ℕ). record { status = Success; count = i }) (l ∙ ap length same);
+      output = e ∙ ap (λ (i : ℕ). (head ++ kept) ++ drop i o) l ∙ ap (λ (x : List ℕ). x ++ drop (length x) o) same;
+    }

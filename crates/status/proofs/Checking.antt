@@ -22,6 +22,17 @@ else-left a b k = else-none a b k .0
 pub else-right : (a b : Option Status) → else a b ≡ none → b ≡ none
 else-right a b k = else-none a b k .1
 
+-- the first two of three checks are known
+pub both-refuse : (a b c : Option Status) (x : Status) → else a b ≡ some x → else a (else b c) ≡ some x
+both-refuse none none c x k = let z : _≡_ {A = ℕ} 0 1 = cc in absurd (omega arith)
+both-refuse none (some y) c x k = k
+both-refuse (some y) b c x k = k
+
+pub both-pass : (a b c : Option Status) → else a b ≡ none → else a (else b c) ≡ c
+both-pass none none c k = refl
+both-pass none (some y) c k = let z : _≡_ {A = ℕ} 0 1 = cc in absurd (omega arith)
+both-pass (some y) b c k = let z : _≡_ {A = ℕ} 0 1 = cc in absurd (omega arith)
+
 pub unless-true : (t : Bool) (x : Status) → unless t x ≡ none → t ≡ true
 unless-true true x k = refl
 unless-true false x k = let z : _≡_ {A = ℕ} 0 1 = cc in absurd (omega arith)

@@ -8,7 +8,7 @@ use native.Mathlib.Omega.{arith}
 use lib.Dec.{eqb}
 use lib.ListN.{length}
 use Rattle.status.specs.declared.Status.{Status}
-use Rattle.status.specs.declared.Status.the-variants.{Success, BufferOverflow, InvalidParameter, InvalidDeviceRequest, BufferTooSmall, UnknownRevision, DiskFull, NotSupported, FileCorruptError, NotAReparsePoint, VolumeNotUpgraded, JournalDeleteInProgress, JournalNotActive, JournalEntryDeleted}
+use Rattle.status.specs.declared.Status.the-variants.{Success, BufferOverflow, InvalidParameter, InvalidDeviceRequest, BufferTooSmall, UnknownRevision, DiskFull, NotSupported, FileCorruptError, NotAReparsePoint, IoReparseTagInvalid, IoReparseTagMismatch, IoReparseDataInvalid, VolumeNotUpgraded, ReparseAttributeConflict, JournalDeleteInProgress, JournalNotActive, JournalEntryDeleted}
 use Rattle.status.specs.declared.Judged.{Judged}
 use Rattle.status.specs.declared.Judged.the-variants.{Passed, Refused}
 use Rattle.status.specs.Number.{number}
@@ -29,9 +29,13 @@ named n =
     (cond (eqb n 0xC00000BB) NotSupported
     (cond (eqb n 0xC0000102) FileCorruptError
     (cond (eqb n 0xC0000275) NotAReparsePoint
+    (cond (eqb n 0xC0000276) IoReparseTagInvalid
+    (cond (eqb n 0xC0000277) IoReparseTagMismatch
+    (cond (eqb n 0xC0000278) IoReparseDataInvalid
     (cond (eqb n 0xC000029C) VolumeNotUpgraded
+    (cond (eqb n 0xC00002B2) ReparseAttributeConflict
     (cond (eqb n 0xC00002B7) JournalDeleteInProgress
-    (cond (eqb n 0xC00002B8) JournalNotActive JournalEntryDeleted))))))))))))
+    (cond (eqb n 0xC00002B8) JournalNotActive JournalEntryDeleted))))))))))))))))
 
 named-number : (x : Status) → named (number x) ≡ x
 unfolding named
@@ -45,7 +49,11 @@ named-number DiskFull = refl
 named-number NotSupported = refl
 named-number FileCorruptError = refl
 named-number NotAReparsePoint = refl
+named-number IoReparseTagInvalid = refl
+named-number IoReparseTagMismatch = refl
+named-number IoReparseDataInvalid = refl
 named-number VolumeNotUpgraded = refl
+named-number ReparseAttributeConflict = refl
 named-number JournalDeleteInProgress = refl
 named-number JournalNotActive = refl
 named-number JournalEntryDeleted = refl

@@ -15,6 +15,16 @@ abbrev pub else : Option Status → Option Status → Option Status
 else none next = next
 else (some x) next = some x
 
+-- none applies
+abbrev pub passes : Option Status → Bool
+passes none = true
+passes (some x) = false
+
+-- a refusal leaves what was there
+abbrev pub settled {ℓ} : {A : Type ℓ} → Option Status → A → A → A
+settled none old new = new
+settled (some x) old new = old
+
 -- what the checks come to
 abbrev pub judged : Option Status → Judged
 judged none = Passed

@@ -7,7 +7,6 @@ use Prim.Native.Nat.{ℕ}
 use lib.ListN.{replicate}
 use Rattle.le.specs.Numbers.{le, unle, numberAt, encode, decode}
 use Rattle.le.specs.Bytes.{allZero, begins}
-use Rattle.status.specs.declared.Status.{Status}
 use Rattle.status.specs.declared.Status.the-variants.{Success, InvalidParameter, FileCorruptError}
 use Rattle.volume.specs.State.{goodCapacity, goodPosition}
 use Rattle.names.specs.Names.{goodUnit, goodUnits, goodName}
@@ -21,7 +20,7 @@ use Rattle.journal.specs.Boundary.{recordsAfter, oldest}
 use Rattle.kept_writer.specs.Kept.{fits}
 use Rattle.journal_post.specs.declared.Change.{Change}
 use Rattle.journal_post.specs.Post.{postedName, postCheck, verdict, postedVolume, postedRing}
-use Rattle.journal_post.specs.Posts.{Journal}
+use Rattle.journal_post.specs.Posts.{Journal, Posting}
 use Rattle.journal_page.specs.Select.{wanted}
 use Rattle.journal_page.specs.Page.{stops, pageOf, pageReply}
 use Rattle.journal_read.specs.Input.{argumentCheck}
@@ -30,14 +29,18 @@ use Rattle.image.specs.Image.{sealed, imageOf}
 use Rattle.image.specs.Forms.{formVersion}
 use Rattle.image_writer.specs.Write.{imageReply}
 use Rattle.image_save.specs.Save.{saveCheck, saveReply}
-use Rattle.history.specs.Calls.{Call, create, post, read, delete, finish, save, statusOf, next}
+use Rattle.reparse_point.specs.Reparse.{mostData, headerLength, goodPoint}
+use Rattle.reparse_update.specs.declared.Update.the-variants.{Set}
+use Rattle.reparse_update.specs.Update.{isLaidOut, givenCheck, updateCheck}
+use Rattle.history.specs.Calls.{Call, create, post, read, delete, finish, save, update}
+use Rattle.history.proofs.Points.{bare, link, statuses}
 use Rattle.unsound.specs.Until.{Unsound}
 
 -- one record of 80 bytes from position 80 on, with a name of one code unit, and bytes that no record wrote
 abbrev keeping : ℕ → Journal
 keeping unit =
     record {
-      volume = record { usn = 0; regions = 0; reparse = 0; points = 0; journal = 1; state = 1; id = 7; first = 80; last = 160; capacity = 1024 };
+      volume = record { usn = 0; regions = 0; reparse = 1; points = 1; journal = 1; state = 1; id = 7; first = 80; last = 160; capacity = 1024 };
       ring =
           replicate 80 0xFF
           ++ (80 ∷ 0 ∷ 0 ∷ 0 ∷ 3 ∷ 0 ∷ 0 ∷ 0
@@ -81,8 +84,11 @@ names-met = (refl, refl)
 abbrev change : Change
 change = record { file = five; parent = six; time = 0; reason = 0x100; source = 0; security = 0; attributes = 0x20 }
 
+abbrev posting : Posting
+posting = record { change = change; name = 0x61 ∷ 0 ∷ [] }
+
 abbrev good : Call
-good = post (record { change = change; name = 0x61 ∷ 0 ∷ [] })
+good = post posting
 
 abbrev separated : Call
 separated = post (record { change = change; name = 0x61 ∷ 0 ∷ 0x5C ∷ 0 ∷ [] })
@@ -96,19 +102,18 @@ all id =
       room = 600;
     })
 
--- what each call of a list answers
-abbrev statuses : Journal → List Call → List Status
-statuses j [] = []
-statuses j (c ∷ cs) = statusOf j c ∷ statuses (next j c) cs
+-- a reparse point is set
+abbrev linking : Call
+linking = update Set bare posting link
 
 -- refused until the journal is deleted and created anew; then only the name with the separator is
 pub refused-until-anew :
-    statuses (keeping 0x5C) (good ∷ all 7 ∷ save 1 600 ∷ create 8 ∷ delete 7 ∷ finish ∷ create 8 ∷ good ∷ separated ∷ all 8 ∷ save 1 600 ∷ [])
-    ≡ FileCorruptError ∷ FileCorruptError ∷ FileCorruptError ∷ InvalidParameter ∷ Success ∷ Success ∷ Success ∷ Success ∷ InvalidParameter ∷ Success ∷ Success ∷ []
-unfolding verdict postCheck postedName postedVolume postedRing oldest placed rotated sound goodMarks goodCapacity goodPosition kept keptBytes records recordsIn parse parseAs accepted goodName goodUnits goodUnit layout encode decode le unle numberAt begins chained keeps wanted allZero fits stops pageOf pageReply recordsAfter argumentCheck isDeleted origin deletedCheck readAnswer readReply saveReply saveCheck formVersion imageReply imageOf sealed joined allShown
+    statuses (keeping 0x5C) (good ∷ all 7 ∷ save 1 600 ∷ linking ∷ create 8 ∷ delete 7 ∷ finish ∷ create 8 ∷ good ∷ separated ∷ all 8 ∷ save 1 600 ∷ linking ∷ [])
+    ≡ FileCorruptError ∷ FileCorruptError ∷ FileCorruptError ∷ FileCorruptError ∷ InvalidParameter ∷ Success ∷ Success ∷ Success ∷ Success ∷ InvalidParameter ∷ Success ∷ Success ∷ Success ∷ []
+unfolding verdict postCheck postedName postedVolume postedRing oldest placed rotated sound goodMarks goodCapacity goodPosition kept keptBytes records recordsIn parse parseAs accepted goodName goodUnits goodUnit layout encode decode le unle numberAt begins chained keeps wanted allZero fits stops pageOf pageReply recordsAfter argumentCheck isDeleted origin deletedCheck readAnswer readReply saveReply saveCheck formVersion imageReply imageOf sealed joined allShown mostData headerLength goodPoint isLaidOut givenCheck updateCheck
 refused-until-anew = refl
 
 -- with another name it is not
-pub not-refused : statuses (keeping 0x5D) (good ∷ all 7 ∷ save 1 600 ∷ separated ∷ []) ≡ Success ∷ Success ∷ Success ∷ InvalidParameter ∷ []
-unfolding verdict postCheck postedName postedVolume postedRing oldest placed rotated sound goodMarks goodCapacity goodPosition kept keptBytes records recordsIn parse parseAs accepted goodName goodUnits goodUnit layout encode decode le unle numberAt begins chained keeps wanted allZero fits stops pageOf pageReply recordsAfter argumentCheck isDeleted origin deletedCheck readAnswer readReply saveReply saveCheck formVersion imageReply imageOf sealed joined allShown
+pub not-refused : statuses (keeping 0x5D) (good ∷ all 7 ∷ save 1 600 ∷ linking ∷ separated ∷ []) ≡ Success ∷ Success ∷ Success ∷ Success ∷ InvalidParameter ∷ []
+unfolding verdict postCheck postedName postedVolume postedRing oldest placed rotated sound goodMarks goodCapacity goodPosition kept keptBytes records recordsIn parse parseAs accepted goodName goodUnits goodUnit layout encode decode le unle numberAt begins chained keeps wanted allZero fits stops pageOf pageReply recordsAfter argumentCheck isDeleted origin deletedCheck readAnswer readReply saveReply saveCheck formVersion imageReply imageOf sealed joined allShown mostData headerLength goodPoint isLaidOut givenCheck updateCheck
 not-refused = refl

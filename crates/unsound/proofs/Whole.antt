@@ -17,14 +17,13 @@ use Rattle.le.proofs.Numbers.{length-le, unle-le}
 use Rattle.le.proofs.Runs.{begins-append}
 use Rattle.status.specs.declared.Status.{Status}
 use Rattle.status.specs.declared.Status.the-variants.{Success, InvalidParameter, InvalidDeviceRequest, FileCorruptError, JournalDeleteInProgress, JournalNotActive}
-use Rattle.status.specs.Check.{unless, else}
+use Rattle.status.specs.Check.{unless, else, settled}
 use Rattle.status.specs.Reply.{guard, answer}
 use Rattle.volume.specs.declared.Volume.{Volume}
 use Rattle.volume.specs.State.{supported, isActive, isDeleting, activeCheck}
 use Rattle.volume.specs.Calls.{performed, inState, createCheck, created, deleteCheck, finishCheck}
 use Rattle.volume.proofs.Marks.{position-facts}
 use Rattle.names.specs.Names.{goodName}
-use Rattle.usn_record.specs.declared.Version.{Version}
 use Rattle.usn_record.specs.declared.Version.{Version}
 use Rattle.usn_record.specs.Layout.{nameOffset, recordLength, padding, widths, values, layout, Record, bytesOf, lengthOf}
 use Rattle.usn_record.proofs.Record.{number-range, length-fields, length-layout}
@@ -37,17 +36,21 @@ use Rattle.journal.specs.Kept.{keptBytes, inChain, sound, kept}
 use Rattle.journal.proofs.Walks.{not-both}
 use Rattle.journal.proofs.Boundaries.{marks-facts, sound-facts}
 use Rattle.journal_post.specs.declared.Change.{Change}
-use Rattle.journal_post.specs.declared.Verdict.the-variants.{Skip}
-use Rattle.journal_post.specs.Post.{skipped, postCheck, checked, verdict, leaves}
-use Rattle.journal_post.specs.Posts.{Journal, Posting}
+use Rattle.journal_post.specs.declared.Verdict.{Verdict}
+use Rattle.journal_post.specs.declared.Verdict.the-variants.{Skip, Reject}
+use Rattle.journal_post.specs.Post.{skipped, postCheck, checked, verdict, verdictStatus, leaves}
+use Rattle.journal_post.specs.Posts.{Journal, Posting, afterPost}
 use Rattle.journal_post.proofs.Keeping.{Keeping, empty-kept, keeping-kept, keeping-sound}
 use Rattle.journal_read.specs.Read.{readCheck, readAnswer, readReply}
 use Rattle.journal_read.proofs.Seeking.{length-kept}
 use Rattle.image.specs.Forms.{formVersion, known}
 use Rattle.image.proofs.Bodies.{same-version}
 use Rattle.image_save.specs.Save.{saveCheck, saveAs, saveReply}
-use Rattle.image_load.specs.Load.{settled, loadCheck}
-use Rattle.history.specs.Calls.{Read, Call, create, post, read, delete, finish, save, load, statusOf, next, runs}
+use Rattle.image_load.specs.Load.{loadCheck}
+use Rattle.reparse_point.specs.Reparse.{pointsCheck}
+use Rattle.reparse_update.specs.declared.Update.{Update}
+use Rattle.reparse_update.specs.Update.{Point, givenCheck, pointPosting, rejection, updateCheck, leftBy}
+use Rattle.history.specs.Calls.{Read, Call, create, post, read, delete, finish, save, load, update, statusOf, next, runs}
 use Rattle.history.proofs.Effects.{with, emptied, either, does}
 use Rattle.history.proofs.Simulate.{active-none}
 use Rattle.unsound.specs.Until.{Unsound, Undeleted, renewed, Until}
@@ -181,6 +184,14 @@ posted-left : {A : Type 0} (t : Bool) (o : Option Status) (x y : A) → Refuses 
 posted-left true o x y k = refl
 posted-left false o x y (z, e) = ap (λ (k : Option Status). leaves (checked k) x y) e
 
+updated-left : (o : Option Status) (j k : Journal) (p f : Point) → k ≡ j → leftBy o j p k f .journal ≡ j
+updated-left none j k p f e = e
+updated-left (some x) j k p f e = refl
+
+updated-rejected : (a b : Option Status) (d : Verdict) (x : Status) (j k : Journal) (p f : Point) → a ≡ none → b ≡ none → d ≡ Reject x
+    → leftBy (else a (else b (rejection d))) j p k f .status ≡ x
+updated-rejected a b d x j k p f e g h = rw (e, g, h)
+
 -- ---- the calls on a journal whose ring is not sound
 
 module _ (j : Journal) (u : Unsound j) where
@@ -203,9 +214,12 @@ module _ (j : Journal) (u : Unsound j) where
   stay : {w : Volume} {ring : List ℕ} → w ≡ v → ring ≡ j .ring → with w ring ≡ j
   stay e q = ap₂ with e q
 
+  post-same : (p : Posting) → afterPost j p ≡ j
+  post-same p = stay (post-left (p .change) (p .name) _ _) (post-left (p .change) (p .name) _ _)
+
   step : (c : Call) → (c ≡ delete (v .id) → ⊥) → next j c ≡ j
   step (create id) n = stay (performed-left (createCheck v id) v (created v id) (refuses-right (unless (not (isDeleting v)) JournalDeleteInProgress) _ (refuses-left _ _ unidle))) refl
-  step (post p) n = stay (post-left (p .change) (p .name) _ _) (post-left (p .change) (p .name) _ _)
+  step (post p) n = post-same p
   step (read a) n = refl
   step (delete id) n =
       stay (performed-left (deleteCheck v id) v (inState v 2) (refuses-right (activeCheck v) _ (refuses-unless (eqb id (v .id)) InvalidParameter (ne-eqb id (v .id) (λ e. n (ap delete e)))))) refl
@@ -213,10 +227,14 @@ module _ (j : Journal) (u : Unsound j) where
   step (save form room) n = refl
   step (load s id) n =
       stay (performed-left (loadCheck v (length (j .ring)) s id) v _ (load-refuses s id)) (settled-left (loadCheck v (length (j .ring)) s id) (j .ring) _ (load-refuses s id))
+  step (update k p q input) n = updated-left (updateCheck k j p q input) j _ p _ (post-same (pointPosting q))
+
+  rejected : (p : Posting) → skipped v (p .change) ≡ false → verdict v (j .ring) (p .change) (p .name) ≡ Reject FileCorruptError
+  unfolding verdict postCheck
+  rejected p e = rw (e, u .unsound) refl
 
   post-corrupt : (p : Posting) → skipped v (p .change) ≡ false → statusOf j (post p) ≡ FileCorruptError
-  unfolding verdict postCheck
-  post-corrupt p e = rw (e, u .unsound) refl
+  post-corrupt p e = ap verdictStatus (rejected p e)
 
   read-corrupt : (a : Read) → readCheck v (a .input) (a .room) ≡ none → statusOf j (read a) ≡ FileCorruptError
   unfolding readReply
@@ -229,6 +247,12 @@ module _ (j : Journal) (u : Unsound j) where
       by : (o : Option Version) → known o ≡ true → answer (saveAs o v (j .ring) room) .status ≡ FileCorruptError
       by none k = absurd (not-both k)
       by (some f) k = rw (active-none v (u .active), u .unsound) refl
+
+  update-corrupt : (k : Update) (p : Point) (q : Posting) (input : List ℕ) → supported (v .journal) ≡ true → pointsCheck v ≡ none
+      → givenCheck k (p .file) (length (p .store)) input ≡ none → statusOf j (update k p q input) ≡ FileCorruptError
+  unfolding updateCheck
+  update-corrupt k p q input e a b =
+      updated-rejected (pointsCheck v) (givenCheck k (p .file) (length (p .store)) input) _ FileCorruptError j _ p _ a b (rejected (pointPosting q) (rw (e, u .active)))
 
   delete-done : statusOf j (delete (v .id)) ≡ Success
   delete-done =
@@ -276,6 +300,7 @@ until =
       post-refused = post-corrupt;
       read-refused = read-corrupt;
       save-refused = save-corrupt;
+      update-refused = update-corrupt;
       deleted = delete-done;
       anew = λ j id e b. let k = anew-keeps j id e b in (keeping-sound (renewed j id) [] k, keeping-kept (renewed j id) [] k);
     }

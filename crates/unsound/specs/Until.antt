@@ -15,7 +15,10 @@ use Rattle.journal_post.specs.Post.{skipped}
 use Rattle.journal_post.specs.Posts.{Journal, Posting}
 use Rattle.journal_read.specs.Read.{readCheck}
 use Rattle.image.specs.Forms.{formVersion, known}
-use Rattle.history.specs.Calls.{Read, Call, create, post, read, delete, finish, save, statusOf, runs}
+use Rattle.reparse_point.specs.Reparse.{pointsCheck}
+use Rattle.reparse_update.specs.declared.Update.{Update}
+use Rattle.reparse_update.specs.Update.{Point, givenCheck}
+use Rattle.history.specs.Calls.{Read, Call, create, post, read, delete, finish, save, update, statusOf, runs}
 
 -- it is active, and its ring is not sound
 pub record Unsound (j : Journal) : Type 0 where
@@ -37,11 +40,14 @@ pub record Until : Type 0 where
       → sound (j .volume) (j .ring) ≡ false
   -- as long as its deletion is not asked for, no call changes the volume record or a byte of the ring
   pub stays : (j : Journal) → Unsound j → (cs : List Call) → Undeleted (j .volume .id) cs → runs j cs ≡ j
-  -- a post that is not skipped, a read that passes the checks ahead of the ring, and a save in a known form are refused
+  -- a post that is not skipped, a read that passes the checks ahead of the ring, a save in a known form, and a set or a delete of a reparse
+  -- point that passes the checks ahead of its post are refused
   pub post-refused : (j : Journal) → Unsound j → (p : Posting) → skipped (j .volume) (p .change) ≡ false → statusOf j (post p) ≡ FileCorruptError
   pub read-refused : (j : Journal) → Unsound j → (a : Read) → readCheck (j .volume) (a .input) (a .room) ≡ none → statusOf j (read a) ≡ FileCorruptError
   pub save-refused : (j : Journal) → Unsound j → (form room : ℕ) → supported (j .volume .journal) ≡ true → known (formVersion form) ≡ true
       → statusOf j (save form room) ≡ FileCorruptError
+  pub update-refused : (j : Journal) → Unsound j → (u : Update) (p : Point) (q : Posting) (input : List ℕ) → supported (j .volume .journal) ≡ true
+      → pointsCheck (j .volume) ≡ none → givenCheck u (p .file) (length (p .store)) input ≡ none → statusOf j (update u p q input) ≡ FileCorruptError
   -- it is deleted all the same
   pub deleted : (j : Journal) → Unsound j → statusOf j (delete (j .volume .id)) ≡ Success
   -- where a creation behind that succeeds, in a buffer of the capacity, the ring is sound and keeps nothing, whatever bytes it has

@@ -1,6 +1,6 @@
-//! The three controls over a file record: USN data, regions, reparse point.
+//! Two controls over a file record: USN data and regions.
 
-use crate::bytes::{put_u16, put_u32, put_u64, u16_at, u32_at, u64_at};
+use crate::bytes::{put_u32, put_u64, u16_at, u32_at, u64_at};
 use crate::record::{has_good_units, is_wide, write, Change, Version, LONGEST_NAME, MAX_USN};
 use crate::{answer, status, Volume};
 
@@ -21,6 +21,8 @@ pub struct File {
     pub tag: u32,
     /// Reparse GUID, given for tags that are not Microsoft's.
     pub guid: [u8; 16],
+    /// Length of the reparse data, which stands at the start of the file's store.
+    pub length: u64,
 }
 
 /// One entry of a file's link table.
@@ -218,54 +220,4 @@ fn end_regions(output: &mut [u8], total: u32, given: u32) -> usize {
     put_u32(output, 8, given);
     put_u32(output, 12, 0);
     REGIONS_HEADER + given as usize * REGION
-}
-
-/// Gives a file's reparse tag and as much of its reparse data as fits.
-pub fn get_reparse_point(
-    volume: &Volume,
-    file: &File,
-    data: &[u8],
-    output: &mut [u8],
-) -> (u32, usize) {
-    answer(reparse_point(volume, file, data, output))
-}
-
-/// Judges a reparse query in the listed order and carries it out.
-fn reparse_point(
-    volume: &Volume,
-    file: &File,
-    data: &[u8],
-    output: &mut [u8],
-) -> Result<usize, u32> {
-    if volume.reparse == 0 {
-        return Err(status::INVALID_DEVICE_REQUEST);
-    }
-    if volume.points == 0 {
-        return Err(status::VOLUME_NOT_UPGRADED);
-    }
-    let microsoft = file.tag & 0x8000_0000 != 0;
-    let (header, most) = match (file.tag, microsoft) {
-        (0, _) => (0, 0),
-        (_, true) => (8, 16_376),
-        (_, false) => (24, 16_360),
-    };
-    if data.len() > most {
-        return Err(status::FILE_CORRUPT_ERROR);
-    }
-    if file.tag == 0 {
-        return Err(status::NOT_A_REPARSE_POINT);
-    }
-    if output.len() < header {
-        return Err(status::BUFFER_TOO_SMALL);
-    }
-    put_u32(output, 0, file.tag);
-    put_u16(output, 4, data.len() as u16);
-    put_u16(output, 6, 0);
-    if !microsoft {
-        output[8..24].copy_from_slice(&file.guid);
-    }
-    let fitting = data.len().min(output.len() - header);
-    let count = header + fitting;
-    output[header..count].copy_from_slice(&data[..fitting]);
-    Ok(count)
 }

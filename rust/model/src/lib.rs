@@ -1,4 +1,4 @@
-//! Reference implementation of a file server's USN change journal and of four
+//! Reference implementation of a file server's USN change journal and of six
 //! file controls, over buffers lent by the caller.
 //!
 //! Every call ends with one of the numbers in [`status`]. `BUFFER_OVERFLOW` is a
@@ -16,13 +16,15 @@ mod files;
 mod image;
 mod journal;
 mod listing;
+mod points;
 mod record;
 pub mod status;
 
-pub use files::{get_reparse_point, query_file_regions, read_file, File, Link};
+pub use files::{query_file_regions, read_file, File, Link};
 pub use image::{load_journal, move_image, save_journal};
 pub use journal::{create, delete, finish, post, read_journal};
 pub use listing::{list_reply, walk_reply};
+pub use points::{delete_reparse_point, get_reparse_point, set_reparse_point};
 pub use record::{read_record, Change, Record};
 
 /// The volume record: what the volume supports, and the state of its journal.
@@ -34,7 +36,7 @@ pub struct Volume {
     pub usn: u32,
     /// Querying file regions is supported.
     pub regions: u32,
-    /// The reparse point control is supported.
+    /// The reparse point controls are supported.
     pub reparse: u32,
     /// The volume has reparse points.
     pub points: u32,

@@ -21,8 +21,16 @@ pub const NOT_SUPPORTED: u32 = 0xC000_00BB;
 pub const FILE_CORRUPT_ERROR: u32 = 0xC000_0102;
 /// The file has no reparse point.
 pub const NOT_A_REPARSE_POINT: u32 = 0xC000_0275;
+/// The input's reparse tag is 0.
+pub const IO_REPARSE_TAG_INVALID: u32 = 0xC000_0276;
+/// The file has a reparse point with another tag.
+pub const IO_REPARSE_TAG_MISMATCH: u32 = 0xC000_0277;
+/// The input is not one reparse point, or not the header alone where that is due.
+pub const IO_REPARSE_DATA_INVALID: u32 = 0xC000_0278;
 /// The volume has no reparse points at all.
 pub const VOLUME_NOT_UPGRADED: u32 = 0xC000_029C;
+/// The file has a reparse point with the same tag and another GUID.
+pub const REPARSE_ATTRIBUTE_CONFLICT: u32 = 0xC000_02B2;
 /// The journal is being deleted.
 pub const JOURNAL_DELETE_IN_PROGRESS: u32 = 0xC000_02B7;
 /// There is no active journal.

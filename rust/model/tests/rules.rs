@@ -395,56 +395,367 @@ fn reparse_points() {
     let mut f = File {
         tag: 0xA000_000C,
         guid: [7; 16],
+        length: 20,
         ..File::default()
     };
-    let data = [9; 16_377];
+    let store = [9; 16_376];
     let mut output = [0xCC; 64];
     assert_eq!(
-        get_reparse_point(&v, &f, &data[..20], &mut output[..7]).0,
+        get_reparse_point(&v, &f, &store, &mut output[..7]).0,
         BUFFER_TOO_SMALL
     );
     assert_eq!(
-        get_reparse_point(&v, &f, &data[..20], &mut output[..18]),
+        get_reparse_point(&v, &f, &store, &mut output[..18]),
         (SUCCESS, 18)
     );
     assert_eq!(output[..8], [12, 0, 0, 0xA0, 20, 0, 0, 0]);
     assert_eq!((output[8..18] == [9; 10], output[18]), (true, 0xCC));
-    f.tag = 5;
+    (f.tag, f.length) = (5, 2);
     assert_eq!(
-        get_reparse_point(&v, &f, &data[..2], &mut output),
+        get_reparse_point(&v, &f, &store, &mut output),
         (SUCCESS, 26)
     );
     assert_eq!(output[..8], [5, 0, 0, 0, 2, 0, 0, 0]);
     assert_eq!(output[8..27], [&[7; 16][..], &[9, 9, 0xCC]].concat());
+    f.length = 0;
     assert_eq!(
-        get_reparse_point(&v, &f, &[], &mut output[..23]).0,
+        get_reparse_point(&v, &f, &store, &mut output[..23]).0,
         BUFFER_TOO_SMALL
     );
 
     for (tag, most) in [(0, 0), (5, 16_360), (1 << 31, 16_376)] {
         f.tag = tag;
         (v.reparse, v.points) = (0, 0);
-        let bad = &data[..most + 1];
+        f.length = most + 1;
         assert_eq!(
-            get_reparse_point(&v, &f, bad, &mut []).0,
+            get_reparse_point(&v, &f, &store, &mut []).0,
             INVALID_DEVICE_REQUEST
         );
         v.reparse = 1;
         assert_eq!(
-            get_reparse_point(&v, &f, bad, &mut []).0,
+            get_reparse_point(&v, &f, &store, &mut []).0,
             VOLUME_NOT_UPGRADED
         );
         v.points = 1;
-        assert_eq!(
-            get_reparse_point(&v, &f, bad, &mut []).0,
-            FILE_CORRUPT_ERROR
-        );
+        for length in [most + 1, 65_536, 1 << 32, u64::MAX] {
+            f.length = length;
+            assert_eq!(
+                get_reparse_point(&v, &f, &store, &mut []).0,
+                FILE_CORRUPT_ERROR
+            );
+        }
+        f.length = most;
         let status = if tag == 0 {
             NOT_A_REPARSE_POINT
         } else {
             BUFFER_TOO_SMALL
         };
-        assert_eq!(get_reparse_point(&v, &f, &data[..most], &mut []).0, status);
+        assert_eq!(get_reparse_point(&v, &f, &store, &mut []).0, status);
+        f.length = 0;
+        assert_eq!(
+            get_reparse_point(&v, &f, &store[1..], &mut []).0,
+            FILE_CORRUPT_ERROR
+        );
+    }
+}
+
+/// A Microsoft point with three bytes of data.
+const LINK: [u8; 11] = [0x0C, 0, 0, 0xA0, 3, 0, 0, 0, 0x61, 0x62, 0x63];
+/// The header with which it is deleted.
+const LINK_HEADER: [u8; 8] = [0x0C, 0, 0, 0xA0, 0, 0, 0, 0];
+/// A point with a GUID and two bytes of data, and the header with which it is
+/// deleted.
+const OTHER: [u8; 26] = [
+    0x05, 0, 0, 0x20, 2, 0, 0, 0, 1, 2, 3, 4, 5, 6, 7, 8, 9, 10, 11, 12, 13, 14, 15, 16, 0x78, 0x79,
+];
+const OTHER_HEADER: [u8; 24] = [
+    0x05, 0, 0, 0x20, 0, 0, 0, 0, 1, 2, 3, 4, 5, 6, 7, 8, 9, 10, 11, 12, 13, 14, 15, 16,
+];
+
+/// The record that a set or a delete of file 5 posts at 1,040, name `a`: its reason
+/// is 0x00100000, whatever that of the change is.
+#[rustfmt::skip]
+const POINT_KEPT: [u8; 80] = [
+    80, 0, 0, 0, 3, 0, 0, 0, 5, 0, 0, 0, 0, 0, 0, 0,
+    0, 0, 0, 0, 0, 0, 0, 0, 6, 0, 0, 0, 0, 0, 0, 0,
+    0, 0, 0, 0, 0, 0, 0, 0, 0x60, 0x04, 0, 0, 0, 0, 0, 0,
+    7, 0, 0, 0, 0, 0, 0, 0, 0, 0, 0x10, 0, 8, 0, 0, 0,
+    9, 0, 0, 0, 0x20, 0, 0, 0, 2, 0, 76, 0, 0x61, 0, 0, 0,
+];
+
+/// What a set or a delete is lent, but for its input.
+#[derive(Clone, Debug, PartialEq)]
+struct Points {
+    v: Volume,
+    ring: Vec<u8>,
+    f: File,
+    store: Vec<u8>,
+    reason: u32,
+    name: Vec<u8>,
+}
+
+impl Points {
+    /// The example's journal, and a file without a point. Its GUID is not zeroes,
+    /// which is of no concern.
+    fn new() -> Points {
+        let (v, ring) = thirteen();
+        let f = File {
+            id: 5,
+            usn: u64::MAX,
+            eof: 3,
+            valid: 4,
+            attributes: 0,
+            tag: 0,
+            guid: [7; 16],
+            length: 0,
+        };
+        let store = vec![0xBB; 16_376];
+        let (reason, name) = (0, b"a\0".to_vec());
+        Points {
+            v,
+            ring,
+            f,
+            store,
+            reason,
+            name,
+        }
+    }
+
+    /// The same with a point that a set has placed.
+    fn with(point: &[u8]) -> Points {
+        let mut points = Points::new();
+        points.v.state = 0;
+        assert_eq!(points.set(point), SUCCESS);
+        points.v.state = 1;
+        points
+    }
+
+    /// A refusal changes nothing.
+    fn set(&mut self, input: &[u8]) -> u32 {
+        let before = self.clone();
+        let c = change(self.reason);
+        let (v, ring, f) = (&mut self.v, &mut self.ring, &mut self.f);
+        let status = set_reparse_point(v, ring, f, &mut self.store, &c, &self.name, input);
+        assert!(status == SUCCESS || *self == before);
+        status
+    }
+
+    /// A refusal changes nothing.
+    fn delete(&mut self, input: &[u8]) -> u32 {
+        let before = self.clone();
+        let c = change(self.reason);
+        let (v, ring, f) = (&mut self.v, &mut self.ring, &mut self.f);
+        let status = delete_reparse_point(v, ring, f, &self.store, &c, &self.name, input);
+        assert!(status == SUCCESS || *self == before);
+        status
+    }
+
+    /// A call of both kinds with the same arguments, of which neither succeeds.
+    fn refused(&self, input: &[u8]) -> [u32; 2] {
+        let refused = [self.clone().set(input), self.clone().delete(input)];
+        assert!(!refused.contains(&SUCCESS));
+        refused
+    }
+
+    /// The file's point as a get gives it.
+    fn get(&self) -> (u32, Vec<u8>) {
+        let mut output = vec![0xCC; 16_400];
+        let (status, count) = get_reparse_point(&self.v, &self.f, &self.store, &mut output);
+        assert!(output[count..].iter().all(|&b| b == 0xCC));
+        output.truncate(count);
+        (status, output)
+    }
+}
+
+#[test]
+fn point_bytes() {
+    let none = Points::new();
+    for (input, tag, guid, data) in [
+        (&LINK[..], 0xA000_000C, [0; 16], &b"abc"[..]),
+        (
+            &OTHER,
+            0x2000_0005,
+            std::array::from_fn(|i| i as u8 + 1),
+            b"xy",
+        ),
+    ] {
+        let mut expected = none.clone();
+        expected.f.usn = 1120;
+        (expected.f.tag, expected.f.guid) = (tag, guid);
+        expected.f.length = data.len() as u64;
+        expected.store[..data.len()].copy_from_slice(data);
+        // The oldest record of the full ring is dropped.
+        (expected.v.first, expected.v.last) = (160, 1120);
+        expected.ring[16..96].copy_from_slice(&POINT_KEPT);
+        let mut points = none.clone();
+        assert_eq!(points.set(input), SUCCESS);
+        assert!(points == expected, "{:?} {:?}", points.v, points.f);
+        assert_eq!(points.get(), (SUCCESS, input.to_vec()));
+
+        // The data stays in the store, where it is no data any more.
+        let header = input[..input.len() - data.len()].to_vec();
+        let header = [&header[..4], &[0; 2], &header[6..]].concat();
+        (expected.f.tag, expected.f.guid, expected.f.length) = (0, [0; 16], 0);
+        (expected.v.first, expected.v.last, expected.f.usn) = (240, 1200, 1200);
+        let mut kept = POINT_KEPT;
+        kept[40..42].copy_from_slice(&1200u16.to_le_bytes());
+        expected.ring[96..176].copy_from_slice(&kept);
+        assert_eq!(points.delete(&header), SUCCESS);
+        assert!(points == expected, "{:?} {:?}", points.v, points.f);
+        assert_eq!(points.get(), (NOT_A_REPARSE_POINT, vec![]));
+    }
+}
+
+/// A point of a tag with so much data, whose length is told right.
+fn point(tag: u32, length: usize) -> Vec<u8> {
+    let mut input = tag.to_le_bytes().to_vec();
+    input.extend((length as u16).to_le_bytes());
+    input.extend([0; 2]);
+    if tag >> 31 == 0 {
+        input.extend([0xD1; 16]);
+    }
+    input.extend((0..length).map(|i| i as u8));
+    input
+}
+
+#[test]
+fn point_sizes() {
+    // Shorter than any header, or than that of the tag. Tag 0 has the long one.
+    for input in [&LINK[..], &OTHER, &[0; 24]] {
+        let header = if input == LINK { 8 } else { 24 };
+        for size in 0..header {
+            let refused = Points::new().refused(&input[..size]);
+            assert_eq!(refused, [IO_REPARSE_DATA_INVALID; 2], "{size}");
+        }
+    }
+    let refused = Points::new().refused(&[0; 24]);
+    assert_eq!(refused, [IO_REPARSE_TAG_INVALID; 2]);
+
+    for (tag, most) in [(0xA000_000C, 16_376), (5, 16_360)] {
+        for length in [0, 1, 2, 255, 256, most - 1, most] {
+            let input = point(tag, length);
+            let mut points = Points::new();
+            assert_eq!(points.set(&input), SUCCESS);
+            assert_eq!(points.get(), (SUCCESS, input.clone()));
+            assert!(points.store[length..].iter().all(|&b| b == 0xBB));
+            // Only a header is taken where a point is deleted.
+            let deleted = match length {
+                0 => SUCCESS,
+                _ => IO_REPARSE_DATA_INVALID,
+            };
+            assert_eq!(points.delete(&input), deleted);
+
+            let mut longer = input.clone();
+            longer.push(0);
+            let mut reserved = input.clone();
+            reserved[7] = 1;
+            let shorter = &input[..input.len() - 1];
+            for input in [&longer[..], &reserved, shorter] {
+                let refused = Points::with(&point(tag, length)).refused(input);
+                assert_eq!(refused, [IO_REPARSE_DATA_INVALID; 2], "{length}");
+            }
+        }
+        for length in [most + 1, 32_768, 65_535] {
+            let refused = Points::new().refused(&point(tag, length));
+            assert_eq!(refused, [IO_REPARSE_DATA_INVALID; 2], "{length}");
+        }
+    }
+}
+
+#[test]
+fn point_order() {
+    // Every fault at once, and then one after the other mended.
+    let mut points = Points::new();
+    (points.v.reparse, points.v.points) = (0, 0);
+    points.f.length = 1;
+    points.name = b"/\0".to_vec();
+    points.ring.truncate(8);
+    assert_eq!(points.refused(&[]), [INVALID_DEVICE_REQUEST; 2]);
+    points.v.reparse = 1;
+    assert_eq!(points.refused(&[]), [VOLUME_NOT_UPGRADED; 2]);
+    points.v.points = 1;
+    assert_eq!(points.refused(&[]), [FILE_CORRUPT_ERROR; 2]);
+    points.f.length = 0;
+    points.store.pop();
+    assert_eq!(points.refused(&[]), [FILE_CORRUPT_ERROR; 2]);
+    points.store.push(0xBB);
+    assert_eq!(points.refused(&[0; 8]), [IO_REPARSE_DATA_INVALID; 2]);
+    assert_eq!(points.refused(&[0; 24]), [IO_REPARSE_TAG_INVALID; 2]);
+    let of_post = [FILE_CORRUPT_ERROR, NOT_A_REPARSE_POINT];
+    assert_eq!(points.refused(&OTHER_HEADER), of_post);
+    (points.f.tag, points.f.guid) = (0xA000_0005, OTHER[8..24].try_into().unwrap());
+    let mismatch = [IO_REPARSE_TAG_MISMATCH; 2];
+    assert_eq!(points.refused(&OTHER_HEADER), mismatch);
+    (points.f.tag, points.f.guid[15]) = (0x2000_0005, 17);
+    let conflict = [REPARSE_ATTRIBUTE_CONFLICT; 2];
+    assert_eq!(points.refused(&OTHER_HEADER), conflict);
+    points.f.guid[15] = 16;
+    assert_eq!(points.refused(&OTHER_HEADER), [FILE_CORRUPT_ERROR; 2]);
+    points.ring = thirteen().1;
+    assert_eq!(points.refused(&OTHER_HEADER), [INVALID_PARAMETER; 2]);
+    points.name[0] = 0x61;
+    let full = (1 << 63) - 8;
+    (points.v.first, points.v.last) = (full, full);
+    assert_eq!(points.refused(&OTHER_HEADER), [DISK_FULL; 2]);
+    (points.v.first, points.v.last) = (full - 80, full - 80);
+    assert_eq!(points.clone().set(&OTHER_HEADER), SUCCESS);
+    assert_eq!(points.delete(&OTHER_HEADER), SUCCESS);
+    assert_eq!((points.v.last, points.f.usn), (full, full));
+}
+
+/// Where a point stands, a set replaces one of the same tag, and of the same GUID
+/// unless the tag is Microsoft's.
+#[test]
+fn point_over_another() {
+    let mut points = Points::with(&LINK);
+    points.f.guid = [1; 16];
+    assert_eq!(points.set(&LINK_HEADER), SUCCESS);
+    assert_eq!((points.f.guid, points.f.length), ([0; 16], 0));
+    assert_eq!(points.store[..4], *b"abc\xBB");
+    assert_eq!(points.set(&OTHER), IO_REPARSE_TAG_MISMATCH);
+    assert_eq!(points.delete(&OTHER_HEADER), IO_REPARSE_TAG_MISMATCH);
+
+    let mut points = Points::with(&OTHER);
+    for byte in 8..24 {
+        let mut header = OTHER_HEADER;
+        header[byte] ^= 0x80;
+        let conflict = [REPARSE_ATTRIBUTE_CONFLICT; 2];
+        assert_eq!(points.refused(&header), conflict, "{byte}");
+    }
+    for byte in 0..4 {
+        let mut header = OTHER_HEADER;
+        header[byte] ^= 0x40;
+        let mismatch = [IO_REPARSE_TAG_MISMATCH; 2];
+        assert_eq!(points.refused(&header), mismatch, "{byte}");
+    }
+    assert_eq!(points.set(&OTHER_HEADER), SUCCESS);
+    assert_eq!(points.get(), (SUCCESS, OTHER_HEADER.to_vec()));
+}
+
+/// A post that is skipped is no refusal, whatever ring and name are. The reason in
+/// the change does not matter.
+#[test]
+fn point_without_a_post() {
+    for (journal, state) in [(0, 1), (1, 0), (1, 2), (1, 3)] {
+        let mut points = Points::new();
+        (points.v.journal, points.v.state) = (journal, state);
+        points.ring.truncate(8);
+        points.name.clear();
+        let mut expected = points.clone();
+        (expected.f.tag, expected.f.guid) = (0xA000_000C, [0; 16]);
+        expected.f.length = 3;
+        expected.store[..3].copy_from_slice(b"abc");
+        assert_eq!(points.set(&LINK), SUCCESS);
+        assert!(points == expected);
+        (expected.f.tag, expected.f.length) = (0, 0);
+        assert_eq!(points.delete(&LINK_HEADER), SUCCESS);
+        assert!(points == expected);
+    }
+    for reason in [0, 1, 0x0010_0000, u32::MAX] {
+        let mut points = Points::new();
+        points.reason = reason;
+        assert_eq!(points.set(&LINK), SUCCESS);
+        assert_eq!(points.ring[16..96], POINT_KEPT);
     }
 }
 
@@ -2565,7 +2876,7 @@ fn random_calls() {
 #[test]
 fn garbage() {
     let mut random = Random(2);
-    let mut warnings = 0;
+    let (mut warnings, mut set_points, mut deleted_points) = (0, 0, 0);
     let edges = [
         0,
         1,
@@ -2600,6 +2911,7 @@ fn garbage() {
             eof: edge(8),
             valid: edge(8),
             tag: edge(1) as u32,
+            length: edge(8),
             ..File::default()
         };
         let links = [Link {
@@ -2619,6 +2931,7 @@ fn garbage() {
             1024
         });
         let mut output = vec![0xCC; random.below(700) as usize];
+        let store = vec![0xBB; 16_374 + random.below(6) as usize];
         let cut = |bytes: &[u8], n: u64| bytes[..bytes.len().min(n as usize)].to_vec();
         let asked = cut(&asked, 30 + random.below(40));
         let query = cut(&query, random.below(60));
@@ -2635,7 +2948,7 @@ fn garbage() {
                 5 => move_image(&image, form, &mut output),
                 1 => read_file(&v, &f, 1, &kept, &links, &query, &mut output),
                 2 => query_file_regions(&v, &f, &query, &mut output),
-                _ => get_reparse_point(&v, &f, &asked, &mut output),
+                _ => get_reparse_point(&v, &f, &store, &mut output),
             };
             match status {
                 SUCCESS => {}
@@ -2655,9 +2968,22 @@ fn garbage() {
         if post(&mut v, &mut ring, &change(1), name, &mut usn) != SUCCESS {
             assert_eq!((v, &ring, usn), (before, &old, 0));
         }
+        let mut points = Points {
+            v,
+            ring: ring.clone(),
+            f,
+            store,
+            reason: 0,
+            name: [name, b"a\0"][random.below(2) as usize].to_vec(),
+        };
+        let mut input = point(f.tag, random.below(4) as usize);
+        let at = random.below(input.len() as u64) as usize;
+        input[at] = random.below(256) as u8;
+        set_points += u32::from(points.set(&input) == SUCCESS);
+        deleted_points += u32::from(points.delete(&cut(&input, 24)) == SUCCESS);
         let at = random.below(1100) as usize;
         assert!(read_record(&ring, at).is_none_or(|r| r.next <= ring.len()));
         assert!(walk_reply(&ring).is_ok() || walk_reply(&ring).is_err_and(|at| at <= ring.len()));
     }
-    assert!(warnings > 0);
+    assert!(warnings > 0 && set_points > 0 && deleted_points > 0);
 }

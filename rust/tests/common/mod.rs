@@ -1,11 +1,12 @@
 //! What the tests share: random numbers, the seed, counts of statuses, lent
-//! buffers with guard bytes, names, ids, the layout of a record, a journal, and
-//! images.
+//! buffers with guard bytes, names, ids, the layout of a record, a journal,
+//! images, and reparse points.
 
 #![allow(dead_code)]
 
 pub mod images;
 pub mod journal;
+pub mod points;
 
 use lanhduxe::{Change, FileId, FileRecord, Link, Record, Status, Volume};
 use std::fmt;
@@ -250,6 +251,31 @@ pub mod expected {
         NotAReparsePoint,
         VolumeNotUpgraded,
     ];
+    pub const SET: [Status; 10] = [
+        Success,
+        InvalidParameter,
+        InvalidDeviceRequest,
+        DiskFull,
+        FileCorruptError,
+        IoReparseTagInvalid,
+        IoReparseTagMismatch,
+        IoReparseDataInvalid,
+        VolumeNotUpgraded,
+        ReparseAttributeConflict,
+    ];
+    pub const DELETE: [Status; 11] = [
+        Success,
+        InvalidParameter,
+        InvalidDeviceRequest,
+        DiskFull,
+        FileCorruptError,
+        NotAReparsePoint,
+        IoReparseTagInvalid,
+        IoReparseTagMismatch,
+        IoReparseDataInvalid,
+        VolumeNotUpgraded,
+        ReparseAttributeConflict,
+    ];
     pub const RECORD: [Status; 2] = [Success, InvalidParameter];
     pub const LISTER: [Status; 2] = [Success, BufferTooSmall];
 }
@@ -365,6 +391,7 @@ pub fn model_file(file: &FileRecord) -> model::File {
         attributes: file.attributes,
         tag: file.tag,
         guid: file.guid,
+        length: file.length,
     }
 }
 

@@ -1,4 +1,4 @@
--- `reparse` is safe and ends: the data and the room lie in their buffers.
+-- `reparse` is safe and ends: the room lies in the output.
 -- Assumes nothing.
 use mathlib.Core.Path.{sym}
 use native.Mathlib.Omega.{arith}
@@ -9,12 +9,9 @@ use Rattle.file_cases.proofs.reparse.Tie as tie
 slice-aggregate-get-reparse-point : tie.Need-slice-aggregate-get-reparse-point
 slice-aggregate-get-reparse-point c = sym (length-take-le _ _ (omega arith))
 
-slice-aggregate-get-reparse-point-2 : tie.Need-slice-aggregate-get-reparse-point-2
-slice-aggregate-get-reparse-point-2 c = sym (length-take-le _ _ (omega arith))
-
 pub reparse-spec : {M : Type 1} → statement M
 reparse-spec =
     tie.close
     (tie.spec (λ c κs. omega arith) (λ c κs. omega arith) (λ c κs. omega arith) (λ c κs. omega arith) (λ c κs. omega arith) (λ c κs. omega arith)
-    (λ c κs. omega arith) slice-aggregate-get-reparse-point (λ c. omega arith) slice-aggregate-get-reparse-point-2 (λ c κs. omega arith)
-    (λ c. omega arith) (λ c κs. omega arith) (λ c. omega arith) (λ c. omega arith))
+    (λ c κs. omega arith) (λ c. omega arith) slice-aggregate-get-reparse-point (λ c κs. omega arith) (λ c. omega arith) (λ c κs. omega arith)
+    (λ c. omega arith) (λ c. omega arith))

@@ -2,59 +2,55 @@
 -- Assumes nothing.
 use mathlib.Core.Path.{_≡_}
 use mathlib.Core.Bool.{not}
-use native.Mathlib.Omega.{arith}
+use mathlib.Core.Option.{Option}
 use lib.Dec.{leb, eqb}
-use lib.ListN.{length}
+use borrow.Author.Needs.{needs}
 use borrow.Author.Tests.{le-leb, lt-leb, eq-eqb, ne-eqb}
-use Rattle.status.specs.declared.Status.the-variants.{BufferTooSmall, FileCorruptError, NotAReparsePoint}
+use Rattle.status.specs.declared.Status.{Status}
+use Rattle.status.specs.declared.Status.the-variants.{BufferTooSmall, NotAReparsePoint}
 use Rattle.status.specs.Check.{unless, else}
-use Rattle.file_record.specs.declared.FileRecord.{FileRecord}
-use Rattle.reparse_point.specs.Reparse.{mostData, headerLength, reparseCheck}
+use Rattle.reparse_point.specs.Reparse.{headerLength, reparseCheck}
+use Rattle.reparse_point.proofs.Judging.{first-refused, first-passed}
 use Rattle.reparse_point.proofs.judge_reparse.Statement.{statement}
 use Rattle.reparse_point.proofs.judge_reparse.Tie as tie
 
+abbrev start : tie.After-judge-point → tie.Start
+start j = j .before
+
+-- behind the first checks: the tag and the room
+abbrev rest : tie.Start → Option Status
+rest s = else (unless (not (eqb (s .args .f .tag) 0)) NotAReparsePoint) (unless (leb (headerLength (s .args .f .tag)) (s .args .room)) BufferTooSmall)
+
 returns : tie.Need-returns
 unfolding reparseCheck
-returns c f e = rw (eq-eqb _ _ (c .if1 .taken))
+returns c =
+    let j = c .before .before in
+    let a = start j .args in
+    first-refused (a .v) (a .f) (a .n) (j .judge-point .result) (j .judge-point .ensures) (rest (start j)) (c .enum-told2 .given .0 .0) (c .enum-told2 .given .1)
+
+known : (p : tie.After-enum-told) → let a = start (p .before .before) .args in reparseCheck (a .v) (a .f) (a .n) (a .room) ≡ rest (start (p .before .before))
+unfolding reparseCheck
+known p =
+    let j = p .before .before in
+    let a = start j .args in
+    first-passed (a .v) (a .f) (a .n) (j .judge-point .result) (j .judge-point .ensures) (rest (start j)) (p .enum-told .given .1)
 
 returns-2 : tie.Need-returns-2
-unfolding reparseCheck
-returns-2 c f e = rw (ne-eqb _ _ (c .before .before .if1 .left), eq-eqb _ _ (c .if2 .taken))
-
--- behind the support: the data, the tag, the room
-upgraded : (p : tie.Else2) (f : FileRecord) → let a = p .before .before .before .before .before .args in f .tag ≡ a .tag
-    → reparseCheck (a .v) f (a .bytes .now) (a .room)
-    ≡ else (unless (leb (length (a .bytes .now)) (mostData (a .tag))) FileCorruptError)
-    (else (unless (not (eqb (a .tag) 0)) NotAReparsePoint) (unless (leb (headerLength (a .tag)) (a .room)) BufferTooSmall))
-unfolding reparseCheck
-upgraded p f e = rw (ne-eqb _ _ (p .before .before .if1 .left), ne-eqb _ _ (p .if2 .left), e)
+returns-2 c = rw (known (c .before .before), eq-eqb _ _ (c .if1 .taken))
 
 returns-3 : tie.Need-returns-3
-returns-3 c f e = let m = c .before in rw (upgraded (m .before) f e, ← (m .most-data .ensures), lt-leb _ _ (c .if3 .taken))
-
-abbrev start : tie.Else3 → tie.Start
-start d = d .before .before .before .before .before .before .before
-
--- behind the data
-short : (d : tie.Else3) (f : FileRecord) → let a = start d .args in f .tag ≡ a .tag
-    → reparseCheck (a .v) f (a .bytes .now) (a .room)
-    ≡ else (unless (not (eqb (a .tag) 0)) NotAReparsePoint) (unless (leb (headerLength (a .tag)) (a .room)) BufferTooSmall)
-short d f e = let m = d .before in rw (upgraded (m .before) f e, ← (m .most-data .ensures), le-leb _ _ (d .if3 .left))
+returns-3 c =
+    let h = c .before in
+    let p = h .before in
+    rw (known (p .before .before), ne-eqb _ _ (p .if1 .left), ← (h .header-length .ensures .0), lt-leb _ _ (c .if2 .taken))
 
 returns-4 : tie.Need-returns-4
-returns-4 c f e = rw (short (c .before) f e, eq-eqb _ _ (c .if4 .taken))
-
-returns-5 : tie.Need-returns-5
-returns-5 c f e =
+returns-4 c =
     let h = c .before in
-    rw (short (h .before .before) f e, ne-eqb _ _ (h .before .if4 .left), ← (h .header-length .ensures .0), lt-leb (h .header-length .result) (start (h .before .before) .args .room) (omega (arith, c .if5 .taken)))
-
-returns-6 : tie.Need-returns-6
-returns-6 c f e =
-    let h = c .before in
-    rw (short (h .before .before) f e, ne-eqb _ _ (h .before .if4 .left), ← (h .header-length .ensures .0), le-leb _ _ (c .if5 .left))
+    let p = h .before in
+    rw (known (p .before .before), ne-eqb _ _ (p .if1 .left), ← (h .header-length .ensures .0), le-leb _ _ (c .if2 .left))
 
 pub judge-reparse-spec : {M : Type 1} → statement M
 judge-reparse-spec =
     tie.close
-    (tie.spec returns returns-2 (λ c κs. tt) returns-3 returns-4 (λ c κs. tt) returns-5 returns-6)
+    (tie.spec (λ c κs. tt) (λ c. search needs) (λ c. search needs) returns returns-2 (λ c κs. tt) returns-3 returns-4)

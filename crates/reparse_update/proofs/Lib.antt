@@ -1,0 +1,4 @@
+pub mod Checked
+pub mod Input
+pub mod Updating
+pub mod Points

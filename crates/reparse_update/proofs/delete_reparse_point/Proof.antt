@@ -1,0 +1,25 @@
+-- `delete_reparse_point` meets its contract: the refusal of the checks, or what `clear_point` leaves.
+-- Assumes nothing.
+use mathlib.Core.Path.{sym, _∙_}
+use native.Mathlib.Omega.{arith}
+use borrow.Author.Needs.{needs}
+use Rattle.status.proofs.Checking.{told-refused, told-passed}
+use Rattle.reparse_update.specs.declared.Update.the-variants.{Delete}
+use Rattle.reparse_update.proofs.Updating.{check-refuses}
+use Rattle.reparse_update.proofs.delete_reparse_point.Statement.{statement}
+use Rattle.reparse_update.proofs.delete_reparse_point.Tie as tie
+
+returns : tie.Need-returns
+returns c =
+    let m = c .before in
+    let j = m .before .before in
+    let a = c .before .before .before .before .before .before .before .before .args in
+    check-refuses Delete (a .v) (a .ring .now) (a .f) (a .store .now) (a .c) (a .name .now) (a .input .now) _ (told-refused _ _ (sym (m .call .given .1) ∙ j .judge-update .ensures))
+
+clear-point-requires : tie.Need-clear-point-requires
+clear-point-requires c κs = let m = c .before in told-passed _ (sym (m .enum-told .given .1) ∙ m .before .before .judge-update .ensures)
+
+pub delete-reparse-point-spec : {M : Type 1} → statement M
+delete-reparse-point-spec =
+    tie.close
+    (tie.spec (λ c κs. tt) (λ c. omega arith) (λ c. omega arith) clear-point-requires returns (λ c. search needs) (λ c. search needs))
