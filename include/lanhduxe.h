@@ -108,6 +108,9 @@ static inline int usn_is_refusal(uint32_t status)
 #define USN_STORE_MIN      16376u                       /* bytes of a file's store, at least: room for any reparse data */
 #define USN_REPARSE_MAX    16384u                       /* bytes of a reparse point's header and data */
 
+/* The reason with which a reparse point that is set or deleted is posted, by the number of [MS-FSCC]. */
+#define USN_REASON_REPARSE_POINT_CHANGE 0x00100000u
+
 /* ---- Records ---- */
 
 /* What a volume supports, and its journal. A flag is 0 for no and any other number for yes. */
@@ -402,12 +405,13 @@ usn_answer usn_get_reparse_point(usn_volume volume, usn_file file, const uint8_t
 
 /*
  * Sets the file's reparse point to the one that the input has (FSCTL_SET_REPARSE_POINT), and posts the change. Where a point stands, it must
- * have the same tag, and the same GUID, where the tag is not Microsoft's. Stores the file's tag, guid (zeroes with a Microsoft tag) and
- * length, and the data at the start of the store, where no other byte is written. usn_get_reparse_point then replies the input's bytes, as
+ * have the same tag, and the same GUID, where the tag is not Microsoft's. Stores tag, guid (zeroes with a Microsoft tag), length and usn of
+ * the file, and the data at the start of the store, where no other byte is written. usn_get_reparse_point then replies the input's bytes, as
  * many as fit.
- * `change` and `name` are those of the post, as with usn_post, but for the reason, which is 0x00100000 whatever is given. Where the post is
- * skipped, for no support of the journal or no active journal, the call succeeds all the same. Else it writes to the ring, and stores first
- * and last, and the file's usn, as usn_post does; where the post is refused, so is the call, and nothing is changed.
+ * `change` and `name` are those of the post, as with usn_post, but for the reason, which is USN_REASON_REPARSE_POINT_CHANGE whatever is
+ * given. An accepted post writes to the ring, stores first and last of the volume, and gives the file its new usn. Where the post is
+ * skipped, for no support of the journal or no active journal, the call succeeds all the same, and the usn is the one that the file had;
+ * `name` is not judged then. Where the post is refused, so is the call, and nothing is changed.
  * INVALID_DEVICE_REQUEST without support; VOLUME_NOT_UPGRADED without reparse points; FILE_CORRUPT_ERROR for a bad file record;
  * IO_REPARSE_DATA_INVALID for an input that is shorter than its header, not as long as header and data together, above USN_REPARSE_MAX bytes,
  * or with anything but 0 behind the length; IO_REPARSE_TAG_INVALID for tag 0; IO_REPARSE_TAG_MISMATCH where another tag stands;
@@ -419,7 +423,7 @@ uint32_t usn_set_reparse_point(usn_volume *volume, uint8_t *ring, size_t ring_si
 
 /*
  * Deletes the file's reparse point (FSCTL_DELETE_REPARSE_POINT), and posts the change as usn_set_reparse_point does. The input is the header
- * of the point that stands, with the length 0. Stores 0 in the file's tag, guid and length; the store stays as it is.
+ * of the point that stands, with the length 0. Stores zeroes as tag, guid and length of the file, and its usn; the store stays as it is.
  * INVALID_DEVICE_REQUEST without support; VOLUME_NOT_UPGRADED without reparse points; FILE_CORRUPT_ERROR for a bad file record;
  * IO_REPARSE_DATA_INVALID for an input as usn_set_reparse_point refuses it, or with a length other than 0; IO_REPARSE_TAG_INVALID for tag 0;
  * NOT_A_REPARSE_POINT for a file without one; IO_REPARSE_TAG_MISMATCH where another tag stands; REPARSE_ATTRIBUTE_CONFLICT where the same

@@ -29,7 +29,7 @@ use Rattle.reparse_point.specs.Reparse.{mostData, headerLength, goodPoint}
 use Rattle.reparse_point.proofs.Examples.{file}
 use Rattle.reparse_update.specs.declared.Update.{Update}
 use Rattle.reparse_update.specs.declared.Update.the-variants.{Set, Delete}
-use Rattle.reparse_update.specs.Update.{isLaidOut, givenCheck, pointPosting, Point, withPoint, updateCheck, updated}
+use Rattle.reparse_update.specs.Update.{isLaidOut, givenCheck, pointPosting, Point, withPoint, updateCheck, updateLeft}
 use Rattle.history.specs.Calls.{Call, create, update, updateEffect, statusOf, next, runs}
 use Rattle.history.specs.Log.{History, posted, opened, isPosted, shed, added, notePost, notes}
 use Rattle.history.specs.Reading.{fresh, mine, follow}
@@ -65,7 +65,7 @@ link = 0x0C ∷ 0 ∷ 0 ∷ 0xA0 ∷ 4 ∷ 0 ∷ 0 ∷ 0 ∷ 1 ∷ 2 ∷ 3 ∷ 4
 abbrev header : List ℕ
 header = 0x0C ∷ 0 ∷ 0 ∷ 0xA0 ∷ 0 ∷ 0 ∷ 0 ∷ 0 ∷ []
 
-pub set-right : updated Set (created 1) bare posting link .point ≡ linked
+pub set-right : updateLeft Set (created 1) bare posting link .point ≡ linked
 unfolding unle numberAt mostData headerLength goodPoint isLaidOut givenCheck updateCheck verdict postCheck postedName goodName goodUnits goodUnit sound goodMarks goodCapacity goodPosition keptBytes rotated records recordsIn chained
 set-right = refl
 
@@ -120,7 +120,7 @@ reader =
     (inr (recordOf (pointPosting posting .change) name 80, List·Memᴰ·head refl, refl)) (λ z. omega arith) tt
 
 -- one read brings it to the end
-pub reaches-end : follow (runs (created 1) calls) (fresh 80 all) (mine (asks 80 600) ∷ []) .position ≡ 160
+pub set-reaches-end : follow (runs (created 1) calls) (fresh 80 all) (mine (asks 80 600) ∷ []) .position ≡ 160
 unfolding mostData headerLength goodPoint isLaidOut givenCheck opened isPosted shed added notePost postedName goodName goodUnits goodUnit le unle numberAt argumentCheck wellFormed wanted above allZero allShown
-reaches-end =
+set-reaches-end =
     reader .progress (λ d. List·Memᴰ·not-nil (d .1)) (mine (asks 80 600) ∷ []) (tt, tt) (λ q. clash cc, tt) ((refl, (refl, refl)), tt) refl (omega arith)

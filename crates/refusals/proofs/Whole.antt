@@ -41,7 +41,7 @@ use Rattle.image_save.specs.Save.{saveCheck, saveAs, saveReply}
 use Rattle.image_move.specs.Move.{movedReply, moveFrom, moveReply}
 use Rattle.image_load.specs.Load.{fitCheck, imageCheck, loadCheck}
 use Rattle.reparse_update.specs.declared.Update.{Update}
-use Rattle.reparse_update.specs.Update.{givenCheck, rejection, Point, updateCheck, leftBy, updated}
+use Rattle.reparse_update.specs.Update.{givenCheck, rejection, Point, updateCheck, leftBy, updateLeft}
 use Rattle.history.specs.Calls.{Call, create, post, read, delete, finish, save, load, update, statusOf, next}
 use Rattle.refusals.proofs.Replies.{refutes, Fair, fair-give, fair-warn, fair-guard, fair-leb, fairs, fair-never}
 use Rattle.refusals.specs.Refusal.{isWarning, isRefusal, Control, readJournal, saveJournal, moveImage, readFile, readFileTable, queryRegions, getReparsePoint, listRecords, listImage, writeRecord, copyRecord, copyOlder, replyOf, usnAfter, Warned, Refusals}
@@ -167,7 +167,7 @@ call-refusal j (load s id) usn h =
     (same j (performed-refusal k _ _ h) (settled-refusal k _ _ _ _ h), refl)
 call-refusal j (update u p q input) usn h = (left-refusal (updateCheck u j p q input) j _ p _ h .0, refl)
 
-point-refusal : (j : Journal) (u : Update) (p : Point) (q : Posting) (input : List ℕ) → isRefusal (statusOf j (update u p q input)) ≡ true → updated u j p q input .point ≡ p
+point-refusal : (j : Journal) (u : Update) (p : Point) (q : Posting) (input : List ℕ) → isRefusal (statusOf j (update u p q input)) ≡ true → updateLeft u j p q input .point ≡ p
 point-refusal j u p q input h = left-refusal (updateCheck u j p q input) j _ p _ h .1
 
 -- ---- no call on the journal warns

@@ -25,7 +25,7 @@ use Rattle.reparse_point.specs.Reparse.{reparseReply}
 use Rattle.journal_post.specs.Post.{postUsn}
 use Rattle.journal_post.specs.Posts.{Journal, Posting}
 use Rattle.reparse_update.specs.declared.Update.{Update}
-use Rattle.reparse_update.specs.Update.{Point, updated}
+use Rattle.reparse_update.specs.Update.{Point, updateLeft}
 use Rattle.history.specs.Calls.{Call, create, post, read, delete, finish, save, load, update, statusOf, next}
 
 -- the warning
@@ -114,6 +114,6 @@ pub record Refusals : Type 0 where
   -- a call that refuses leaves the volume record, the ring and the file's Usn
   pub calls : (j : Journal) (c : Call) (usn : ℕ) → isRefusal (statusOf j c) ≡ true → (next j c ≡ j) × (usnAfter j c usn ≡ usn)
   -- a set or a delete of a reparse point that refuses leaves the file's record and its store
-  pub points : (j : Journal) (u : Update) (p : Point) (q : Posting) (input : List ℕ) → isRefusal (statusOf j (update u p q input)) ≡ true → updated u j p q input .point ≡ p
+  pub points : (j : Journal) (u : Update) (p : Point) (q : Posting) (input : List ℕ) → isRefusal (statusOf j (update u p q input)) ≡ true → updateLeft u j p q input .point ≡ p
   -- and none of these warns
   pub unwarned : (j : Journal) (c : Call) → isWarning (statusOf j c) ≡ false

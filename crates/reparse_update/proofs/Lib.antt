@@ -2,3 +2,4 @@ pub mod Checked
 pub mod Input
 pub mod Updating
 pub mod Points
+pub mod Examples

@@ -29,8 +29,8 @@ use Rattle.reparse_point.specs.Reparse.{isMicrosoft, mostData, headerLength, re
 use Rattle.reparse_point.proofs.Writing.{header-least, header-whole}
 use Rattle.reparse_update.specs.declared.Update.{Update}
 use Rattle.reparse_update.specs.declared.Update.the-variants.{Set, Delete}
-use Rattle.reparse_update.specs.Update.{givenTag, givenLength, givenReserved, givenGuid, givenData, isLaidOut, isDelete, givenCheck, pointPosting, rejection, Point, withPoint, newPoint, updateCheck, Left, leftBy, updated}
-use Rattle.reparse_update.specs.Points.{Succeeds, Gets, Judged, Points}
+use Rattle.reparse_update.specs.Update.{givenTag, givenLength, givenReserved, givenGuid, givenData, isLaidOut, isDelete, givenCheck, pointPosting, rejection, Point, withPoint, newPoint, updateCheck, Left, leftBy, updateLeft}
+use Rattle.reparse_update.specs.Points.{SucceedsWith, Gets, Passes, Points}
 use Rattle.reparse_update.proofs.Checked.{never-zero, never-updated}
 use Rattle.reparse_update.proofs.Input.{Parts, parts-of}
 use Rattle.reparse_update.proofs.Updating.{given-facts}
@@ -41,14 +41,14 @@ passes : (k : Option Status) (j i : Journal) (p new : Point) → Never Success k
 passes none j i p new n e = refl
 passes (some x) j i p new n e = absurd (never-zero x n (ap number e))
 
-module _ (u : Update) (j : Journal) (p : Point) (q : Posting) (input : List ℕ) (e : updated u j p q input .status ≡ Success) where
+module _ (u : Update) (j : Journal) (p : Point) (q : Posting) (input : List ℕ) (e : updateLeft u j p q input .status ≡ Success) where
   abbrev usn : ℕ
   usn = postUsn (j .volume) (j .ring) (pointPosting q .change) (pointPosting q .name) (p .file .usn)
 
   passed : updateCheck u j p q input ≡ none
   passed = passes (updateCheck u j p q input) j (afterPost j (pointPosting q)) p (newPoint u p usn input) (never-updated u j p q input) e
 
-  left-is : updated u j p q input ≡ leftBy none j p (afterPost j (pointPosting q)) (newPoint u p usn input)
+  left-is : updateLeft u j p q input ≡ leftBy none j p (afterPost j (pointPosting q)) (newPoint u p usn input)
   left-is = ap (λ (o : Option Status). leftBy o j p (afterPost j (pointPosting q)) (newPoint u p usn input)) passed
 
   supported : pointsCheck (j .volume) ≡ none
@@ -60,7 +60,7 @@ module _ (u : Update) (j : Journal) (p : Point) (q : Posting) (input : List ℕ)
   given = else-left (givenCheck u (p .file) (length (p .store)) input) _ (else-right (pointsCheck (j .volume)) _ passed)
 
   -- the post leaves the support flags
-  keeps-support : pointsCheck (updated u j p q input .journal .volume) ≡ none
+  keeps-support : pointsCheck (updateLeft u j p q input .journal .volume) ≡ none
   unfolding postedVolume
   keeps-support = ap (λ (l : Left). pointsCheck (l .journal .volume)) left-is ∙ go (verdict (j .volume) (j .ring) (pointPosting q .change) (pointPosting q .name))
     where
@@ -154,7 +154,7 @@ reply-is : (w : Volume) (f : FileRecord) (store : List ℕ) (room : ℕ) → poi
 unfolding reparseReply reparseCheck
 reply-is w f store room c g = rw (c, g)
 
-module _ (j : Journal) (p : Point) (q : Posting) (input : List ℕ) (new : Point) (b : Bytes input) (s : Succeeds Set j p q input new) where
+module _ (j : Journal) (p : Point) (q : Posting) (input : List ℕ) (new : Point) (b : Bytes input) (s : SucceedsWith Set j p q input new) where
   abbrev n : ℕ
   n = usn Set j p q input (s .success)
 
@@ -194,7 +194,7 @@ cleared : (f : FileRecord) (usn n : ℕ) → 16376 ≤ n → goodPoint (withPoin
 unfolding goodPoint mostData
 cleared f usn n m = rw (le-leb 16376 n m)
 
-delete-replies : (j : Journal) (p : Point) (q : Posting) (input : List ℕ) (new : Point) → Succeeds Delete j p q input new → (room : ℕ) → Gets new room (refuse NotAReparsePoint)
+delete-replies : (j : Journal) (p : Point) (q : Posting) (input : List ℕ) (new : Point) → SucceedsWith Delete j p q input new → (room : ℕ) → Gets new room (refuse NotAReparsePoint)
 delete-replies j p q input new s room w c =
     let n = usn Delete j p q input (s .success) in
     let r : new ≡ newPoint Delete p n input = sym (s .left) ∙ ap (λ (l : Left). l .point) (left-is Delete j p q input (s .success)) in
@@ -204,7 +204,7 @@ delete-replies j p q input new s room w c =
 
 -- ---- the post decides
 
-module _ (u : Update) (j : Journal) (p : Point) (q : Posting) (input : List ℕ) (g : Judged u j p input) where
+module _ (u : Update) (j : Journal) (p : Point) (q : Posting) (input : List ℕ) (g : Passes u j p input) where
   abbrev d : Verdict
   d = verdict (j .volume) (j .ring) (pointPosting q .change) (q .name)
 
@@ -214,19 +214,19 @@ module _ (u : Update) (j : Journal) (p : Point) (q : Posting) (input : List ℕ)
       leftBy (rejection d) j p (record { volume = leaves d (j .volume) (postedVolume (j .volume) (j .ring) (q .name)); ring = leaves d (j .ring) (postedRing (j .volume) (j .ring) (pointPosting q .change) (q .name)) })
       (newPoint u p (leaves d (p .file .usn) (endOf (j .volume) (q .name))) input)
 
-  decides : updated u j p q input ≡ decided d
+  decides : updateLeft u j p q input ≡ decided d
   unfolding updateCheck
   decides =
       ap (λ (o : Option Status). leftBy (else o (else (givenCheck u (p .file) (length (p .store)) input) (rejection d))) j p (afterPost j (pointPosting q)) (newPoint u p (postUsn (j .volume) (j .ring) (pointPosting q .change) (q .name) (p .file .usn)) input)) (g .supported)
       ∙ ap (λ (o : Option Status). leftBy (else o (rejection d)) j p (afterPost j (pointPosting q)) (newPoint u p (postUsn (j .volume) (j .ring) (pointPosting q .change) (q .name) (p .file .usn)) input)) (g .given)
 
-  skipped : d ≡ Skip → updated u j p q input ≡ record { status = Success; journal = j; point = newPoint u p (p .file .usn) input }
+  skipped : d ≡ Skip → updateLeft u j p q input ≡ record { status = Success; journal = j; point = newPoint u p (p .file .usn) input }
   skipped e = decides ∙ ap decided e
 
-  rejected : (x : Status) → d ≡ Reject x → updated u j p q input ≡ record { status = x; journal = j; point = p }
+  rejected : (x : Status) → d ≡ Reject x → updateLeft u j p q input ≡ record { status = x; journal = j; point = p }
   rejected x e = decides ∙ ap decided e
 
-  accepted : d ≡ Accept → updated u j p q input ≡ record { status = Success; journal = afterPost j (pointPosting q); point = newPoint u p (endOf (j .volume) (q .name)) input }
+  accepted : d ≡ Accept → updateLeft u j p q input ≡ record { status = Success; journal = afterPost j (pointPosting q); point = newPoint u p (endOf (j .volume) (q .name)) input }
   accepted e =
       decides
       ∙ ap decided e

@@ -28,7 +28,7 @@ use Rattle.reparse_point.specs.Reparse.{headerLength, pointsCheck, goodPoint}
 use Rattle.reparse_point.proofs.Writing.{header-least}
 use Rattle.reparse_update.specs.declared.Update.{Update}
 use Rattle.reparse_update.specs.declared.Updated.{Updated}
-use Rattle.reparse_update.specs.Update.{givenTag, givenLength, givenData, isLaidOut, isDelete, givenCheck, pointPosting, rejection, Point, withPoint, newPoint, updateCheck, Left, leftBy, updated, Updates}
+use Rattle.reparse_update.specs.Update.{givenTag, givenLength, givenData, isLaidOut, isDelete, givenCheck, pointPosting, rejection, Point, withPoint, newPoint, updateCheck, Left, leftBy, updateLeft, Updates}
 use Rattle.reparse_update.specs.Steps.{Posts}
 use Rattle.reparse_update.proofs.Input.{Parts, parts-of}
 use Rattle.reparse_update.proofs.Checked.{never-zero, never-rejected}
@@ -98,7 +98,7 @@ module _ (u : Update) (v : Volume) (ring : List ℕ) (f : FileRecord) (store : L
   refused-check x e = both-refuse (pointsCheck v) (givenCheck u f (length store) input) (rejection d) x e
 
   pub check-refuses : (x : Status) → else (pointsCheck v) (givenCheck u f (length store) input) ≡ some x
-      → Updates (updated u j p q input) (record { status = x; volume = v; file = f }) ring store
+      → Updates (updateLeft u j p q input) (record { status = x; volume = v; file = f }) ring store
   check-refuses x e =
       subst (λ (o : Option Status). Updates (left o) (record { status = x; volume = v; file = f }) ring store) (sym (refused-check x e))
       (record { status = refl; volume = refl; ring = refl; file = refl; store = refl })
@@ -110,7 +110,7 @@ module _ (u : Update) (v : Volume) (ring : List ℕ) (f : FileRecord) (store : L
     decides = both-pass (pointsCheck v) (givenCheck u f (length store) input) (rejection d) passed
 
     -- a post that is refused leaves all as it was
-    pub post-refuses : (number (r .status) ≡ 0 → ⊥) → Updates (updated u j p q input) r after store
+    pub post-refuses : (number (r .status) ≡ 0 → ⊥) → Updates (updateLeft u j p q input) r after store
     post-refuses n = subst (λ (o : Option Status). Updates (left o) r after store) (sym decides) (go d (posts .status) (posts .volume) (posts .written) (posts .file))
       where
         go : (d : Verdict) → r .status ≡ verdictStatus d → r .volume ≡ leaves d v (postedVolume v ring name) → after ≡ leaves d ring (postedRing v ring (pointPosting q .change) name)
@@ -125,7 +125,7 @@ module _ (u : Update) (v : Volume) (ring : List ℕ) (f : FileRecord) (store : L
 
     -- one that is not refused leaves the new point
     pub post-takes : number (r .status) ≡ 0 → (g : FileRecord) (kept : List ℕ) → let new = newPoint u p (r .file .usn) input in g ≡ new .file → kept ≡ new .store
-        → Updates (updated u j p q input) (record { status = r .status; volume = r .volume; file = g }) after kept
+        → Updates (updateLeft u j p q input) (record { status = r .status; volume = r .volume; file = g }) after kept
     post-takes s g kept e k =
         let o : updateCheck u j p q input ≡ none = decides ∙ not-rejected d (never-rejected v ring (pointPosting q .change) name) (sym (ap number (posts .status)) ∙ s) in
         let usn : r .file .usn ≡ postUsn v ring (pointPosting q .change) name (f .usn) = ap (λ (x : FileRecord). x .usn) (posts .file) in

@@ -15,47 +15,47 @@ use Rattle.journal_post.specs.Posts.{Journal, Posting, afterPost}
 use Rattle.reparse_point.specs.Reparse.{headerLength, pointsCheck, reparseReply}
 use Rattle.reparse_update.specs.declared.Update.{Update}
 use Rattle.reparse_update.specs.declared.Update.the-variants.{Set, Delete}
-use Rattle.reparse_update.specs.Update.{givenTag, givenCheck, pointPosting, Point, newPoint, updated}
+use Rattle.reparse_update.specs.Update.{givenTag, givenCheck, pointPosting, Point, newPoint, updateLeft}
 
 -- a call that succeeded has left this point
-pub record Succeeds (u : Update) (j : Journal) (p : Point) (q : Posting) (input : List ℕ) (new : Point) : Type 0 where
-  pub success : updated u j p q input .status ≡ Success
-  pub left : updated u j p q input .point ≡ new
+pub record SucceedsWith (u : Update) (j : Journal) (p : Point) (q : Posting) (input : List ℕ) (new : Point) : Type 0 where
+  pub success : updateLeft u j p q input .status ≡ Success
+  pub left : updateLeft u j p q input .point ≡ new
 
 -- a get of it, on a volume that supports reparse points and their controls, replies so
 abbrev pub Gets : Point → ℕ → Reply → Type 0
 Gets p room reply = (w : Volume) → pointsCheck w ≡ none → reparseReply w (p .file) (p .store) room ≡ reply
 
 -- a call that its own checks let pass
-pub record Judged (u : Update) (j : Journal) (p : Point) (input : List ℕ) : Type 0 where
+pub record Passes (u : Update) (j : Journal) (p : Point) (input : List ℕ) : Type 0 where
   pub supported : pointsCheck (j .volume) ≡ none
   pub given : givenCheck u (p .file) (length (p .store)) input ≡ none
 
 pub record Points : Type 0 where
   -- after a set: the bytes that were set, as many as have room
-  pub part : (j : Journal) (p : Point) (q : Posting) (input : List ℕ) (new : Point) → Bytes input → Succeeds Set j p q input new
+  pub part : (j : Journal) (p : Point) (q : Posting) (input : List ℕ) (new : Point) → Bytes input → SucceedsWith Set j p q input new
       → (room : ℕ) → headerLength (givenTag input) ≤ room → Gets new room (give Success (take room input))
   -- all of them where the room suffices
-  pub whole : (j : Journal) (p : Point) (q : Posting) (input : List ℕ) (new : Point) → Bytes input → Succeeds Set j p q input new
+  pub whole : (j : Journal) (p : Point) (q : Posting) (input : List ℕ) (new : Point) → Bytes input → SucceedsWith Set j p q input new
       → (room : ℕ) → length input ≤ room → Gets new room (give Success input)
   -- and none where it does not suffice for the header
-  pub short : (j : Journal) (p : Point) (q : Posting) (input : List ℕ) (new : Point) → Bytes input → Succeeds Set j p q input new
+  pub short : (j : Journal) (p : Point) (q : Posting) (input : List ℕ) (new : Point) → Bytes input → SucceedsWith Set j p q input new
       → (room : ℕ) → room < headerLength (givenTag input) → Gets new room (refuse BufferTooSmall)
   -- after a delete there is no reparse point
-  pub gone : (j : Journal) (p : Point) (q : Posting) (input : List ℕ) (new : Point) → Succeeds Delete j p q input new
+  pub gone : (j : Journal) (p : Point) (q : Posting) (input : List ℕ) (new : Point) → SucceedsWith Delete j p q input new
       → (room : ℕ) → Gets new room (refuse NotAReparsePoint)
   -- a call that its own checks let pass succeeds where its post is skipped, and leaves the journal and the file's Usn
-  pub skips : (u : Update) (j : Journal) (p : Point) (q : Posting) (input : List ℕ) → Judged u j p input
+  pub skips : (u : Update) (j : Journal) (p : Point) (q : Posting) (input : List ℕ) → Passes u j p input
       → verdict (j .volume) (j .ring) (pointPosting q .change) (q .name) ≡ Skip
-      → updated u j p q input ≡ record { status = Success; journal = j; point = newPoint u p (p .file .usn) input }
+      → updateLeft u j p q input ≡ record { status = Success; journal = j; point = newPoint u p (p .file .usn) input }
   -- it is refused where its post is rejected, with the post's status, and leaves all as it was
-  pub rejects : (u : Update) (j : Journal) (p : Point) (q : Posting) (input : List ℕ) → Judged u j p input
+  pub rejects : (u : Update) (j : Journal) (p : Point) (q : Posting) (input : List ℕ) → Passes u j p input
       → (x : Status) → verdict (j .volume) (j .ring) (pointPosting q .change) (q .name) ≡ Reject x
-      → updated u j p q input ≡ record { status = x; journal = j; point = p }
+      → updateLeft u j p q input ≡ record { status = x; journal = j; point = p }
   -- and where its post is accepted it leaves what that leaves, and the new point with the record's Usn
-  pub accepts : (u : Update) (j : Journal) (p : Point) (q : Posting) (input : List ℕ) → Judged u j p input
+  pub accepts : (u : Update) (j : Journal) (p : Point) (q : Posting) (input : List ℕ) → Passes u j p input
       → verdict (j .volume) (j .ring) (pointPosting q .change) (q .name) ≡ Accept
-      → updated u j p q input ≡ record { status = Success; journal = afterPost j (pointPosting q); point = newPoint u p (endOf (j .volume) (q .name)) input }
+      → updateLeft u j p q input ≡ record { status = Success; journal = afterPost j (pointPosting q); point = newPoint u p (endOf (j .volume) (q .name)) input }
   -- the volume record that either leaves still supports them
-  pub supports : (u : Update) (j : Journal) (p : Point) (q : Posting) (input : List ℕ) → updated u j p q input .status ≡ Success
-      → pointsCheck (updated u j p q input .journal .volume) ≡ none
+  pub supports : (u : Update) (j : Journal) (p : Point) (q : Posting) (input : List ℕ) → updateLeft u j p q input .status ≡ Success
+      → pointsCheck (updateLeft u j p q input .journal .volume) ≡ none

@@ -151,15 +151,15 @@ leftBy none j p k q = record { status = Success; journal = k; point = q }
 leftBy (some x) j p k q = record { status = x; journal = j; point = p }
 
 -- the post, and the file's Usn from it
-abbrev pub updated : Update → Journal → Point → Posting → List ℕ → Left
-updated u j p q input =
+abbrev pub updateLeft : Update → Journal → Point → Posting → List ℕ → Left
+updateLeft u j p q input =
     let usn = postUsn (j .volume) (j .ring) (pointPosting q .change) (pointPosting q .name) (p .file .usn) in
     leftBy (updateCheck u j p q input) j p (afterPost j (pointPosting q)) (newPoint u p usn input)
 
 -- the same with each argument by itself, as a call has them
-abbrev pub updatedBy : Update → Volume → List ℕ → FileRecord → List ℕ → Change → List ℕ → List ℕ → Left
-updatedBy u v ring f store c name input =
-    updated u (record { volume = v; ring = ring }) (record { file = f; store = store }) (record { change = c; name = name }) input
+abbrev pub callLeft : Update → Volume → List ℕ → FileRecord → List ℕ → Change → List ℕ → List ℕ → Left
+callLeft u v ring f store c name input =
+    updateLeft u (record { volume = v; ring = ring }) (record { file = f; store = store }) (record { change = c; name = name }) input
 
 -- a call that gave r, and left this ring and this store, did so
 pub record Updates (l : Left) (r : Updated) (ringNow storeNow : List ℕ) : Type 0 where

@@ -8,7 +8,7 @@ ghost use lib.ListN.{length};
 ghost use Rattle.le.specs.Numbers.{unle};
 ghost use Rattle.status.specs.Check.{else, judged};
 ghost use Rattle.reparse_point.specs.Reparse.{pointsCheck};
-ghost use Rattle.reparse_update.specs.Update.{givenTag, givenLength, givenGuid, isLaidOut, isDelete, hasOtherGuid, givenCheck, updatedBy, Updates};
+ghost use Rattle.reparse_update.specs.Update.{givenTag, givenLength, givenGuid, isLaidOut, isDelete, hasOtherGuid, givenCheck, callLeft, Updates};
 ghost use Rattle.reparse_update.specs.Steps.{Posts};
 use file_ids::half;
 use file_record::FileRecord;
@@ -203,7 +203,7 @@ fn store_point(
     input: &[u8],
 ) -> Updated
     requires { ⌜ else (pointsCheck v) (givenCheck Update.Set f (length (now store)) (now input)) ≡ none ⌝ }
-    ensures { λ r. ⌜ Updates (updatedBy Update.Set v (now (ring .entry)) f (now (store .entry)) c (now (name .entry)) (now (input .entry))) r (now (ring .exit)) (now (store .exit)) ⌝ }
+    ensures { λ r. ⌜ Updates (callLeft Update.Set v (now (ring .entry)) f (now (store .entry)) c (now (name .entry)) (now (input .entry))) r (now (ring .exit)) (now (store .exit)) ⌝ }
 {
     let posted = post_point(v, ring, f, c, name);
     let s = posted.status;
@@ -237,7 +237,7 @@ fn clear_point(
     input: &[u8],
 ) -> Updated
     requires { ⌜ else (pointsCheck v) (givenCheck Update.Delete f (length (now store)) (now input)) ≡ none ⌝ }
-    ensures { λ r. ⌜ Updates (updatedBy Update.Delete v (now (ring .entry)) f (now (store .entry)) c (now (name .entry)) (now (input .entry))) r (now (ring .exit)) (now (store .entry)) ⌝ }
+    ensures { λ r. ⌜ Updates (callLeft Update.Delete v (now (ring .entry)) f (now (store .entry)) c (now (name .entry)) (now (input .entry))) r (now (ring .exit)) (now (store .entry)) ⌝ }
 {
     let posted = post_point(v, ring, f, c, name);
     let told = posted.status;
@@ -266,7 +266,7 @@ pub fn set_reparse_point(
     name: &[u8],
     input: &[u8],
 ) -> Updated
-    ensures { λ r. ⌜ Updates (updatedBy Update.Set v (now (ring .entry)) f (now (store .entry)) c (now (name .entry)) (now (input .entry))) r (now (ring .exit)) (now (store .exit)) ⌝ }
+    ensures { λ r. ⌜ Updates (callLeft Update.Set v (now (ring .entry)) f (now (store .entry)) c (now (name .entry)) (now (input .entry))) r (now (ring .exit)) (now (store .exit)) ⌝ }
 {
     let call = judge_update(Update::Set, v, f, store.len(), input);
     match call {
@@ -289,7 +289,7 @@ pub fn delete_reparse_point(
     name: &[u8],
     input: &[u8],
 ) -> Updated
-    ensures { λ r. ⌜ Updates (updatedBy Update.Delete v (now (ring .entry)) f (now (store .entry)) c (now (name .entry)) (now (input .entry))) r (now (ring .exit)) (now (store .entry)) ⌝ }
+    ensures { λ r. ⌜ Updates (callLeft Update.Delete v (now (ring .entry)) f (now (store .entry)) c (now (name .entry)) (now (input .entry))) r (now (ring .exit)) (now (store .entry)) ⌝ }
 {
     let call = judge_update(Update::Delete, v, f, store.len(), input);
     match call {
