@@ -407,11 +407,11 @@ usn_answer usn_get_reparse_point(usn_volume volume, usn_file file, const uint8_t
  * Sets the file's reparse point to the one that the input has (FSCTL_SET_REPARSE_POINT), and posts the change. Where a point stands, it must
  * have the same tag, and the same GUID, where the tag is not Microsoft's. Stores tag, guid (zeroes with a Microsoft tag), length and usn of
  * the file, and the data at the start of the store, where no other byte is written. usn_get_reparse_point then replies the input's bytes, as
- * many as fit.
+ * many as fit, with room for the header.
  * `change` and `name` are those of the post, as with usn_post, but for the reason, which is USN_REASON_REPARSE_POINT_CHANGE whatever is
  * given. An accepted post writes to the ring, stores first and last of the volume, and gives the file its new usn. Where the post is
- * skipped, for no support of the journal or no active journal, the call succeeds all the same, and the usn is the one that the file had;
- * `name` is not judged then. Where the post is refused, so is the call, and nothing is changed.
+ * skipped, for no support of the journal or no active journal, the call succeeds all the same, the usn is the one that the file had, and
+ * neither ring nor name is looked at. Where the post is refused, so is the call, and nothing is changed.
  * INVALID_DEVICE_REQUEST without support; VOLUME_NOT_UPGRADED without reparse points; FILE_CORRUPT_ERROR for a bad file record;
  * IO_REPARSE_DATA_INVALID for an input that is shorter than its header, not as long as header and data together, above USN_REPARSE_MAX bytes,
  * or with anything but 0 behind the length; IO_REPARSE_TAG_INVALID for tag 0; IO_REPARSE_TAG_MISMATCH where another tag stands;

@@ -9,7 +9,8 @@
 //! this one instruction, and if not, the child is killed. Each record lies on two
 //! pages, cut behind such a field, so that a store that begins right and goes too
 //! far is seen too. The ring, a file's store and the Usn of a post are read-only
-//! as a whole where the call must not write them.
+//! as a whole where the call must not write them, and the store always behind its
+//! first page.
 
 mod common;
 
@@ -473,6 +474,8 @@ fn run(cases: &[Case], ring: &[u8]) -> Result<Vec<Outcome>, Killed> {
         TOLD.store(ptr::from_ref(told).cast_mut(), Relaxed);
         handle(SIGSEGV, Some(on_fault));
         handle(SIGTRAP, Some(on_step));
+        // The data of a set, at most 32 bytes here, goes to the first page of the store.
+        protect(store, STORE_PAGES, false);
         for (number, case) in cases.iter().enumerate() {
             let at = [0, 1].map(|record| records[record].wrapping_add(PAGE - case.cuts[record]));
             let (volume, file): (*mut Volume, *mut FileRecord) = (at[0].cast(), at[1].cast());
@@ -490,7 +493,7 @@ fn run(cases: &[Case], ring: &[u8]) -> Result<Vec<Outcome>, Killed> {
                     protect(record, 2, false);
                 }
                 protect(page, 1, case.writes_ring());
-                protect(store, STORE_PAGES, case.writes_store());
+                protect(store, 1, case.writes_store());
                 allow([(at[0], case.fields[0]), (at[1], case.fields[1])]);
                 told.done.store(number, Relaxed);
                 let status = case.call.by_library(volume, file, &lent);

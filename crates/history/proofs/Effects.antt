@@ -13,7 +13,7 @@ use Rattle.le.specs.Bytes.{Bytes}
 use Rattle.le.proofs.Runs.{and-left, and-right}
 use Rattle.status.specs.declared.Status.{Status}
 use Rattle.status.specs.declared.Status.the-variants.{Success, InvalidParameter, FileCorruptError, JournalDeleteInProgress, JournalNotActive}
-use Rattle.status.specs.Check.{unless, else, passes, settled}
+use Rattle.status.specs.Check.{unless, else, passes}
 use Rattle.volume.specs.declared.Volume.{Volume}
 use Rattle.volume.specs.State.{supported, isActive, isDeleting, goodCapacity, goodPosition}
 use Rattle.volume.specs.Calls.{performed, inState, atPositions, createCheck, created, deleteOutcome, finishCheck}
@@ -27,7 +27,7 @@ use Rattle.image.specs.Image.{Image}
 use Rattle.image.specs.Forms.{stored}
 use Rattle.image.proofs.RoundTrip.{fitting}
 use Rattle.image.proofs.Forms.{stored-fit, stored-storable}
-use Rattle.image_load.specs.Load.{postingOf, restored, loadCheck}
+use Rattle.image_load.specs.Load.{postingOf, restored, settled, loadCheck}
 use Rattle.image_load.proofs.Restoring.{load-none, load-passed, load-succeeds, created-made}
 use Rattle.reparse_point.specs.Reparse.{pointsCheck}
 use Rattle.reparse_update.specs.declared.Update.{Update}

@@ -12,7 +12,6 @@ use Rattle.status.specs.declared.Status.{Status}
 use Rattle.status.specs.declared.Status.the-variants.{Success, BufferOverflow, InvalidParameter, InvalidDeviceRequest, BufferTooSmall, UnknownRevision, DiskFull, NotSupported, FileCorruptError, NotAReparsePoint, IoReparseTagInvalid, IoReparseTagMismatch, IoReparseDataInvalid, VolumeNotUpgraded, ReparseAttributeConflict, JournalDeleteInProgress, JournalNotActive, JournalEntryDeleted}
 use Rattle.status.specs.Number.{number}
 use Rattle.status.proofs.Checking.{Never, never-none, never-cond, nevers}
-use Rattle.status.specs.Check.{settled}
 use Rattle.usn_record.specs.declared.Version.{Version}
 use Rattle.usn_record.specs.Layout.{Record}
 use Rattle.record_writer.specs.Write.{writeCheck}
@@ -39,7 +38,7 @@ use Rattle.image.specs.Forms.{formVersion, formCheck}
 use Rattle.image_writer.specs.Write.{imageReply}
 use Rattle.image_save.specs.Save.{saveCheck, saveAs, saveReply}
 use Rattle.image_move.specs.Move.{movedReply, moveFrom, moveReply}
-use Rattle.image_load.specs.Load.{fitCheck, imageCheck, loadCheck}
+use Rattle.image_load.specs.Load.{settled, fitCheck, imageCheck, loadCheck}
 use Rattle.reparse_update.specs.declared.Update.{Update}
 use Rattle.reparse_update.specs.Update.{givenCheck, rejection, Point, updateCheck, leftBy, updateLeft}
 use Rattle.history.specs.Calls.{Call, create, post, read, delete, finish, save, load, update, statusOf, next}

@@ -15,7 +15,7 @@ use Rattle.journal_post.specs.Posts.{Journal, Posting, afterPost}
 use Rattle.reparse_point.specs.Reparse.{headerLength, pointsCheck, reparseReply}
 use Rattle.reparse_update.specs.declared.Update.{Update}
 use Rattle.reparse_update.specs.declared.Update.the-variants.{Set, Delete}
-use Rattle.reparse_update.specs.Update.{givenTag, givenCheck, pointPosting, Point, newPoint, updateLeft}
+use Rattle.reparse_update.specs.Update.{givenTag, givenCheck, pointChange, pointPosting, Point, newPoint, updateLeft}
 
 -- a call that succeeded has left this point
 pub record SucceedsWith (u : Update) (j : Journal) (p : Point) (q : Posting) (input : List ℕ) (new : Point) : Type 0 where
@@ -46,15 +46,15 @@ pub record Points : Type 0 where
       → (room : ℕ) → Gets new room (refuse NotAReparsePoint)
   -- a call that its own checks let pass succeeds where its post is skipped, and leaves the journal and the file's Usn
   pub skips : (u : Update) (j : Journal) (p : Point) (q : Posting) (input : List ℕ) → Passes u j p input
-      → verdict (j .volume) (j .ring) (pointPosting q .change) (q .name) ≡ Skip
+      → verdict (j .volume) (j .ring) (pointChange (q .change)) (q .name) ≡ Skip
       → updateLeft u j p q input ≡ record { status = Success; journal = j; point = newPoint u p (p .file .usn) input }
   -- it is refused where its post is rejected, with the post's status, and leaves all as it was
   pub rejects : (u : Update) (j : Journal) (p : Point) (q : Posting) (input : List ℕ) → Passes u j p input
-      → (x : Status) → verdict (j .volume) (j .ring) (pointPosting q .change) (q .name) ≡ Reject x
+      → (x : Status) → verdict (j .volume) (j .ring) (pointChange (q .change)) (q .name) ≡ Reject x
       → updateLeft u j p q input ≡ record { status = x; journal = j; point = p }
   -- and where its post is accepted it leaves what that leaves, and the new point with the record's Usn
   pub accepts : (u : Update) (j : Journal) (p : Point) (q : Posting) (input : List ℕ) → Passes u j p input
-      → verdict (j .volume) (j .ring) (pointPosting q .change) (q .name) ≡ Accept
+      → verdict (j .volume) (j .ring) (pointChange (q .change)) (q .name) ≡ Accept
       → updateLeft u j p q input ≡ record { status = Success; journal = afterPost j (pointPosting q); point = newPoint u p (endOf (j .volume) (q .name)) input }
   -- the volume record that either leaves still supports them
   pub supports : (u : Update) (j : Journal) (p : Point) (q : Posting) (input : List ℕ) → updateLeft u j p q input .status ≡ Success

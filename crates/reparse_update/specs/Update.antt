@@ -10,7 +10,6 @@ use Rattle.le.specs.Numbers.{unle, numberAt}
 use Rattle.status.specs.declared.Status.{Status}
 use Rattle.status.specs.declared.Status.the-variants.{Success, FileCorruptError, NotAReparsePoint, IoReparseTagInvalid, IoReparseTagMismatch, IoReparseDataInvalid, ReparseAttributeConflict}
 use Rattle.status.specs.Check.{unless, else}
-use Rattle.volume.specs.declared.Volume.{Volume}
 use Rattle.file_record.specs.declared.FileRecord.{FileRecord}
 use Rattle.journal_post.specs.declared.Change.{Change}
 use Rattle.journal_post.specs.declared.Verdict.{Verdict}
@@ -53,11 +52,11 @@ abbrev pub isDelete : Update → Bool
 isDelete Set = false
 isDelete Delete = true
 
--- another tag stands
-abbrev pub hasOtherTag : FileRecord → List ℕ → Bool
-hasOtherTag f input = not (eqb (f .tag) 0) && not (eqb (f .tag) (givenTag input))
+-- another tag than this stands
+abbrev pub hasOtherTag : FileRecord → ℕ → Bool
+hasOtherTag f tag = not (eqb (f .tag) 0) && not (eqb (f .tag) tag)
 
--- the same tag stands, which is not Microsoft's, with another GUID; both are compared as numbers of sixteen bytes
+-- the tag that is given stands, which is not Microsoft's, with another GUID; both are compared as numbers of sixteen bytes
 abbrev pub hasOtherGuid : FileRecord → List ℕ → Bool
 hasOtherGuid f input = eqb (f .tag) (givenTag input) && (not (isMicrosoft (f .tag)) && not (eqb (unle (f .guid)) (unle (givenGuid input))))
 
@@ -69,7 +68,7 @@ givenCheck u f n input =
     (else (unless (isLaidOut input && (not (isDelete u) || eqb (givenLength input) 0)) IoReparseDataInvalid)
     (else (unless (not (eqb (givenTag input) 0)) IoReparseTagInvalid)
     (else (unless (not (isDelete u && eqb (f .tag) 0)) NotAReparsePoint)
-    (else (unless (not (hasOtherTag f input)) IoReparseTagMismatch)
+    (else (unless (not (hasOtherTag f (givenTag input))) IoReparseTagMismatch)
     (unless (not (hasOtherGuid f input)) ReparseAttributeConflict)))))
 
 -- ---- the post
@@ -78,21 +77,20 @@ givenCheck u f n input =
 abbrev pub pointReason : ℕ
 pointReason = 0x00100000
 
-abbrev pub pointPosting : Posting → Posting
-pointPosting q =
-    let c = q .change in
+abbrev pub pointChange : Change → Change
+pointChange c =
     record {
-      change = record {
-        file = c .file;
-        parent = c .parent;
-        time = c .time;
-        reason = pointReason;
-        source = c .source;
-        security = c .security;
-        attributes = c .attributes;
-      };
-      name = q .name;
+      file = c .file;
+      parent = c .parent;
+      time = c .time;
+      reason = pointReason;
+      source = c .source;
+      security = c .security;
+      attributes = c .attributes;
     }
+
+abbrev pub pointPosting : Posting → Posting
+pointPosting q = record { change = pointChange (q .change); name = q .name }
 
 -- a post that is rejected refuses the call; one that is skipped does not
 abbrev pub rejection : Verdict → Option Status
@@ -137,7 +135,7 @@ unfoldable pub updateCheck : Update → Journal → Point → Posting → List �
 updateCheck u j p q input =
     else (pointsCheck (j .volume))
     (else (givenCheck u (p .file) (length (p .store)) input)
-    (rejection (verdict (j .volume) (j .ring) (pointPosting q .change) (pointPosting q .name))))
+    (rejection (verdict (j .volume) (j .ring) (pointChange (q .change)) (q .name))))
 
 -- what a call answers and leaves
 pub record Left : Type 0 where
@@ -153,13 +151,8 @@ leftBy (some x) j p k q = record { status = x; journal = j; point = p }
 -- the post, and the file's Usn from it
 abbrev pub updateLeft : Update → Journal → Point → Posting → List ℕ → Left
 updateLeft u j p q input =
-    let usn = postUsn (j .volume) (j .ring) (pointPosting q .change) (pointPosting q .name) (p .file .usn) in
+    let usn = postUsn (j .volume) (j .ring) (pointChange (q .change)) (q .name) (p .file .usn) in
     leftBy (updateCheck u j p q input) j p (afterPost j (pointPosting q)) (newPoint u p usn input)
-
--- the same with each argument by itself, as a call has them
-abbrev pub callLeft : Update → Volume → List ℕ → FileRecord → List ℕ → Change → List ℕ → List ℕ → Left
-callLeft u v ring f store c name input =
-    updateLeft u (record { volume = v; ring = ring }) (record { file = f; store = store }) (record { change = c; name = name }) input
 
 -- a call that gave r, and left this ring and this store, did so
 pub record Updates (l : Left) (r : Updated) (ringNow storeNow : List ℕ) : Type 0 where

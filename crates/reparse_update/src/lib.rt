@@ -8,8 +8,8 @@ ghost use lib.ListN.{length};
 ghost use Rattle.le.specs.Numbers.{unle};
 ghost use Rattle.status.specs.Check.{else, judged};
 ghost use Rattle.reparse_point.specs.Reparse.{pointsCheck};
-ghost use Rattle.reparse_update.specs.Update.{givenTag, givenLength, givenGuid, isLaidOut, isDelete, hasOtherGuid, givenCheck, callLeft, Updates};
-ghost use Rattle.reparse_update.specs.Steps.{Posts};
+ghost use Rattle.reparse_update.specs.Update.{givenTag, givenLength, givenGuid, isLaidOut, isDelete, hasOtherTag, hasOtherGuid, givenCheck, updateLeft, Updates};
+ghost use Rattle.reparse_update.specs.Steps.{Posts, Clears};
 use file_ids::half;
 use file_record::FileRecord;
 use journal_post::Change;
@@ -109,7 +109,7 @@ fn has_target(u: Update, tag: u32) -> bool
 
 // Whether another tag than this stands.
 fn has_other_tag(f: FileRecord, tag: u32) -> bool
-    ensures { λ r. ⌜ r ≡ not (eqb (f .tag) 0) && not (eqb (f .tag) tag) ⌝ }
+    ensures { λ r. ⌜ r ≡ hasOtherTag f tag ⌝ }
 {
     if f.tag == 0 {
         return false;
@@ -203,7 +203,7 @@ fn store_point(
     input: &[u8],
 ) -> Updated
     requires { ⌜ else (pointsCheck v) (givenCheck Update.Set f (length (now store)) (now input)) ≡ none ⌝ }
-    ensures { λ r. ⌜ Updates (callLeft Update.Set v (now (ring .entry)) f (now (store .entry)) c (now (name .entry)) (now (input .entry))) r (now (ring .exit)) (now (store .exit)) ⌝ }
+    ensures { λ r. ⌜ Updates (updateLeft Update.Set (record { volume = v; ring = now (ring .entry) }) (record { file = f; store = now (store .entry) }) (record { change = c; name = now (name .entry) }) (now (input .entry))) r (now (ring .exit)) (now (store .exit)) ⌝ }
 {
     let posted = post_point(v, ring, f, c, name);
     let s = posted.status;
@@ -226,18 +226,9 @@ fn store_point(
     }
 }
 
-// Deletes the reparse point of a call that has been judged, if its post is not refused.
-fn clear_point(
-    v: Volume,
-    ring: &mut [u8],
-    f: FileRecord,
-    store: &[u8],
-    c: Change,
-    name: &[u8],
-    input: &[u8],
-) -> Updated
-    requires { ⌜ else (pointsCheck v) (givenCheck Update.Delete f (length (now store)) (now input)) ≡ none ⌝ }
-    ensures { λ r. ⌜ Updates (callLeft Update.Delete v (now (ring .entry)) f (now (store .entry)) c (now (name .entry)) (now (input .entry))) r (now (ring .exit)) (now (store .entry)) ⌝ }
+// Posts the change of a reparse point that is deleted, and deletes it if the post is not refused.
+fn clear_point(v: Volume, ring: &mut [u8], f: FileRecord, c: Change, name: &[u8]) -> Updated
+    ensures { λ r. ⌜ Clears v (now (ring .entry)) f c (now (name .entry)) r (now (ring .exit)) ⌝ }
 {
     let posted = post_point(v, ring, f, c, name);
     let told = posted.status;
@@ -266,7 +257,7 @@ pub fn set_reparse_point(
     name: &[u8],
     input: &[u8],
 ) -> Updated
-    ensures { λ r. ⌜ Updates (callLeft Update.Set v (now (ring .entry)) f (now (store .entry)) c (now (name .entry)) (now (input .entry))) r (now (ring .exit)) (now (store .exit)) ⌝ }
+    ensures { λ r. ⌜ Updates (updateLeft Update.Set (record { volume = v; ring = now (ring .entry) }) (record { file = f; store = now (store .entry) }) (record { change = c; name = now (name .entry) }) (now (input .entry))) r (now (ring .exit)) (now (store .exit)) ⌝ }
 {
     let call = judge_update(Update::Set, v, f, store.len(), input);
     match call {
@@ -289,7 +280,7 @@ pub fn delete_reparse_point(
     name: &[u8],
     input: &[u8],
 ) -> Updated
-    ensures { λ r. ⌜ Updates (callLeft Update.Delete v (now (ring .entry)) f (now (store .entry)) c (now (name .entry)) (now (input .entry))) r (now (ring .exit)) (now (store .entry)) ⌝ }
+    ensures { λ r. ⌜ Updates (updateLeft Update.Delete (record { volume = v; ring = now (ring .entry) }) (record { file = f; store = now (store .entry) }) (record { change = c; name = now (name .entry) }) (now (input .entry))) r (now (ring .exit)) (now (store .entry)) ⌝ }
 {
     let call = judge_update(Update::Delete, v, f, store.len(), input);
     match call {
@@ -298,6 +289,6 @@ pub fn delete_reparse_point(
             volume: v,
             file: f,
         },
-        Judged::Passed => clear_point(v, ring, f, store, c, name, input),
+        Judged::Passed => clear_point(v, ring, f, c, name),
     }
 }

@@ -12,7 +12,6 @@ use Rattle.le.specs.Bytes.{Bytes}
 use Rattle.le.proofs.Runs.{and-left}
 use Rattle.status.specs.declared.Status.{Status}
 use Rattle.status.specs.declared.Status.the-variants.{Success}
-use Rattle.status.specs.Check.{settled}
 use Rattle.volume.specs.declared.Volume.{Volume}
 use Rattle.volume.specs.declared.Outcome.{Outcome}
 use Rattle.volume.specs.State.{isActive, goodCapacity}
@@ -32,7 +31,7 @@ use Rattle.image.proofs.Forms.{none-some, read-stored, stored-read, form-passes
 use Rattle.image_judge.specs.Steps.{marksOf}
 use Rattle.image_save.specs.Save.{content}
 use Rattle.image_save.proofs.Saving.{saved-image, saved-back}
-use Rattle.image_load.specs.Load.{loadCheck, restored, loadOutcome, loadRing}
+use Rattle.image_load.specs.Load.{loadCheck, restored, settled, loadOutcome, loadRing}
 use Rattle.image_load.proofs.Restoring.{Passed, load-succeeds, load-none, passed-check, restored-put, restored-keeps}
 use Rattle.image_load.specs.Steps.{loadedVolume}
 use Rattle.image_move.specs.Moves.{MovedTo}

@@ -20,11 +20,6 @@ abbrev pub passes : Option Status → Bool
 passes none = true
 passes (some x) = false
 
--- a refusal leaves what was there
-abbrev pub settled {ℓ} : {A : Type ℓ} → Option Status → A → A → A
-settled none old new = new
-settled (some x) old new = old
-
 -- what the checks come to
 abbrev pub judged : Option Status → Judged
 judged none = Passed

@@ -17,7 +17,7 @@ use Rattle.le.proofs.Numbers.{length-le, unle-le}
 use Rattle.le.proofs.Runs.{begins-append}
 use Rattle.status.specs.declared.Status.{Status}
 use Rattle.status.specs.declared.Status.the-variants.{Success, InvalidParameter, InvalidDeviceRequest, FileCorruptError, JournalDeleteInProgress, JournalNotActive}
-use Rattle.status.specs.Check.{unless, else, settled}
+use Rattle.status.specs.Check.{unless, else}
 use Rattle.status.specs.Reply.{guard, answer}
 use Rattle.volume.specs.declared.Volume.{Volume}
 use Rattle.volume.specs.State.{supported, isActive, isDeleting, activeCheck}
@@ -46,7 +46,7 @@ use Rattle.journal_read.proofs.Seeking.{length-kept}
 use Rattle.image.specs.Forms.{formVersion, known}
 use Rattle.image.proofs.Bodies.{same-version}
 use Rattle.image_save.specs.Save.{saveCheck, saveAs, saveReply}
-use Rattle.image_load.specs.Load.{loadCheck}
+use Rattle.image_load.specs.Load.{settled, loadCheck}
 use Rattle.reparse_point.specs.Reparse.{pointsCheck}
 use Rattle.reparse_update.specs.declared.Update.{Update}
 use Rattle.reparse_update.specs.Update.{Point, givenCheck, pointPosting, rejection, updateCheck, leftBy}

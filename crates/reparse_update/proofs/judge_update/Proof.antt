@@ -30,7 +30,7 @@ rest s =
     else (unless (isLaidOut input && (not (isDelete u) || eqb (givenLength input) 0)) IoReparseDataInvalid)
     (else (unless (not (eqb (givenTag input) 0)) IoReparseTagInvalid)
     (else (unless (not (isDelete u && eqb (f .tag) 0)) NotAReparsePoint)
-    (else (unless (not (hasOtherTag f input)) IoReparseTagMismatch)
+    (else (unless (not (hasOtherTag f (givenTag input))) IoReparseTagMismatch)
     (unless (not (hasOtherGuid f input)) ReparseAttributeConflict))))
 
 returns : tie.Need-returns
@@ -71,7 +71,7 @@ tagged s =
     let input = s .args .input .now in
     else (unless (not (eqb (givenTag input) 0)) IoReparseTagInvalid)
     (else (unless (not (isDelete (s .args .u) && eqb (f .tag) 0)) NotAReparsePoint)
-    (else (unless (not (hasOtherTag f input)) IoReparseTagMismatch)
+    (else (unless (not (hasOtherTag f (givenTag input))) IoReparseTagMismatch)
     (unless (not (hasOtherGuid f input)) ReparseAttributeConflict)))
 
 abbrev began : tie.Else2 → tie.Start
@@ -100,17 +100,17 @@ returns-5 c =
 -- the checks on what stands
 behind-target : (r : tie.Else4) → let s = began (r .before .before .before .before) in let a = s .args in
     else (pointsCheck (a .v)) (givenCheck (a .u) (a .f) (a .n) (a .input .now))
-    ≡ else (unless (not (hasOtherTag (a .f) (a .input .now))) IoReparseTagMismatch) (unless (not (hasOtherGuid (a .f) (a .input .now))) ReparseAttributeConflict)
+    ≡ else (unless (not (hasOtherTag (a .f) (givenTag (a .input .now)))) IoReparseTagMismatch) (unless (not (hasOtherGuid (a .f) (a .input .now))) ReparseAttributeConflict)
 behind-target r =
     let t = r .before .before in
     rw (behind-layout (t .before .before), given t, sym (r .before .has-target .ensures) ∙ not-false _ (r .if4 .left))
 
 -- whether another tag stands
 other-tag : (o : tie.After-has-other-tag) → let r = o .before in let a = began (r .before .before .before .before) .args in
-    o .has-other-tag .result ≡ hasOtherTag (a .f) (a .input .now)
+    o .has-other-tag .result ≡ hasOtherTag (a .f) (givenTag (a .input .now))
 other-tag o =
     let t = o .before .before .before .before in
-    o .has-other-tag .ensures ∙ ap (λ (n : ℕ). not (eqb (began (t .before) .args .f .tag) 0) && not (eqb (began (t .before) .args .f .tag) n)) (t .tag-given .ensures)
+    o .has-other-tag .ensures ∙ ap (hasOtherTag (began (t .before) .args .f)) (t .tag-given .ensures)
 
 returns-6 : tie.Need-returns-6
 returns-6 c = let o = c .before in rw (behind-target (o .before), sym (other-tag o) ∙ c .if5 .taken)

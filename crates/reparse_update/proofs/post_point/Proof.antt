@@ -14,9 +14,11 @@ returns c =
     let f = o .before .before .before .before .before .args .f in
     let e = o .post .ensures in
     record {
-      status = ap (λ (o : Outcome). o .status) (e .0);
-      volume = ap (λ (o : Outcome). o .volume) (e .0);
-      written = e .1;
+      journal = record {
+        status = ap (λ (o : Outcome). o .status) (e .0);
+        volume = ap (λ (o : Outcome). o .volume) (e .0);
+        written = e .1;
+      };
       file = ap (λ (n : ℕ). withPoint f n (f .tag) (f .guid) (f .length)) (e .2);
     }
 

@@ -7,11 +7,13 @@ use Prim.Native.Nat.{ℕ, _≤_}
 use native.Mathlib.Omega.{arith}
 use lib.ListN.{length}
 use borrow.Author.Needs.{needs}
+use Rattle.status.specs.Number.{number}
+use Rattle.journal_post.specs.Post.{postUsn}
 use Rattle.reparse_point.specs.Reparse.{headerLength}
 use Rattle.reparse_update.specs.declared.Update.the-variants.{Set}
-use Rattle.reparse_update.specs.Update.{givenTag, givenGuid, isLaidOut, withPoint}
+use Rattle.reparse_update.specs.Update.{givenTag, givenGuid, isLaidOut, pointChange, withPoint}
 use Rattle.reparse_update.proofs.Input.{Parts, parts-of}
-use Rattle.reparse_update.proofs.Updating.{passed-facts, data-fits, data-put, post-refuses, pointed, post-takes}
+use Rattle.reparse_update.proofs.Updating.{passed-facts, data-fits, data-put, refused-file, pointed, post-refuses, post-takes}
 use Rattle.reparse_update.proofs.store_point.Statement.{statement}
 use Rattle.reparse_update.proofs.store_point.Tie as tie
 
@@ -37,23 +39,27 @@ copy-requires c κs =
     let s = start (c .before .before .before .before .before .before .before .before) in
     data-fits (s .args .input .now) _ (head-is (c .before .before)) (length (s .args .store .now)) (laid s) (passed-facts Set (s .args .v) (s .args .f) (length (s .args .store .now)) (s .args .input .now) (s .pre) .1)
 
+refuses : (c : tie.Then1) → number (c .before .before .before .before .post-point .result .status) ≡ 0 → ⊥
+refuses c e = c .if1 .taken (c .before .status-number .ensures ∙ e)
+
 returns : tie.Need-returns
 returns c =
     let o = c .before .before .before .before in
     let a = start o .args in
-    post-refuses Set (a .v) (a .ring .now) (a .f) (a .store .now) (a .c) (a .name .now) (a .input .now) (start o .pre) _ _ (o .post-point .ensures)
-    (λ e. c .if1 .taken (c .before .status-number .ensures ∙ e))
+    post-refuses Set (a .v) (a .ring .now) (a .f) (a .store .now) (a .c) (a .name .now) (a .input .now) (start o .pre) _ _ (o .post-point .ensures .journal)
+    (refuses c) (refused-file (a .v) (a .ring .now) (a .f) (a .c) (a .name .now) _ _ (o .post-point .ensures) (refuses c))
 
 returns-2 : tie.Need-returns-2
 returns-2 c =
     let t = c .before .before .before .before .before .before .before .before .before .before .before in
     let o = t .before .before .before .before in
     let a = start o .args in
-    post-takes Set (a .v) (a .ring .now) (a .f) (a .store .now) (a .c) (a .name .now) (a .input .now) (start o .pre) _ _ (o .post-point .ensures)
+    let usn = postUsn (a .v) (a .ring .now) (pointChange (a .c)) (a .name .now) (a .f .usn) in
+    post-takes Set (a .v) (a .ring .now) (a .f) (a .store .now) (a .c) (a .name .now) (a .input .now) (start o .pre) _ _ (o .post-point .ensures .journal)
     (sym (t .before .status-number .ensures) ∙ t .if1 .left) _ _
-    (pointed Set (a .v) (a .ring .now) (a .f) (a .store .now) (a .c) (a .name .now) (a .input .now) (start o .pre) _ _ (o .post-point .ensures) _ _ _
-    ∙ ap₂ (λ (tag : ℕ) (guid : List ℕ). withPoint (a .f) (o .post-point .result .file .usn) tag guid (c .length-given .result)) (c .before .before .before .before .before .before .before .before .before .before .tag-given .ensures) (c .before .before .before .guid-given .ensures)
-    ∙ ap (withPoint (a .f) (o .post-point .result .file .usn) (givenTag (a .input .now)) (givenGuid (a .input .now))) (c .length-given .ensures .0))
+    (pointed (a .v) (a .ring .now) (a .f) (a .c) (a .name .now) _ _ (o .post-point .ensures) _ _ _
+    ∙ ap₂ (λ (tag : ℕ) (guid : List ℕ). withPoint (a .f) usn tag guid (c .length-given .result)) (c .before .before .before .before .before .before .before .before .before .before .tag-given .ensures) (c .before .before .before .guid-given .ensures)
+    ∙ ap (withPoint (a .f) usn (givenTag (a .input .now)) (givenGuid (a .input .now))) (c .length-given .ensures .0))
     (data-put (a .input .now) _ (head-is (c .before .before .before .before .before .before .before .before .before)) (a .store .now) _ (c .before .before .before .before .before .before .copy .ensures))
 
 pub store-point-spec : {M : Type 1} → statement M
