@@ -10,7 +10,7 @@ use lib.Dec.{leb, eqb}
 use lib.ListN.{length, take, drop, replicate, length-append, length-drop}
 use lib.Seq.{take-all, take-add, take-at, drop-drop}
 use borrow.Author.Tests.{leb-true, leb-false, le-leb, lt-leb, not-true}
-use Rattle.le.specs.Numbers.{le, numberAt, encode}
+use Rattle.le.specs.Numbers.{le, encode}
 use Rattle.le.specs.Bytes.{Bytes}
 use Rattle.le.proofs.Places.{le-number}
 use Rattle.status.specs.declared.Status.{Status}
@@ -18,7 +18,7 @@ use Rattle.status.specs.declared.Status.the-variants.{Success, BufferTooSmall, 
 use Rattle.status.specs.Number.{number}
 use Rattle.status.specs.Check.{unless, else}
 use Rattle.status.specs.Reply.{refuse, give, guard}
-use Rattle.status.proofs.Checking.{else-none, else-left, else-right, unless-true, Never}
+use Rattle.status.proofs.Checking.{else-left, else-right, unless-true, Never}
 use Rattle.volume.specs.declared.Volume.{Volume}
 use Rattle.file_record.specs.declared.FileRecord.{FileRecord}
 use Rattle.journal_post.specs.declared.Verdict.{Verdict}
@@ -29,7 +29,7 @@ use Rattle.reparse_point.specs.Reparse.{isMicrosoft, mostData, headerLength, re
 use Rattle.reparse_point.proofs.Writing.{header-least, header-whole}
 use Rattle.reparse_update.specs.declared.Update.{Update}
 use Rattle.reparse_update.specs.declared.Update.the-variants.{Set, Delete}
-use Rattle.reparse_update.specs.Update.{givenTag, givenLength, givenReserved, givenGuid, givenData, isLaidOut, isDelete, givenCheck, pointPosting, rejection, Point, withPoint, newPoint, updateCheck, Left, leftBy, updateLeft}
+use Rattle.reparse_update.specs.Update.{givenTag, givenLength, givenGuid, givenData, isLaidOut, isDelete, givenCheck, pointPosting, rejection, Point, withPoint, newPoint, updateCheck, Left, leftBy, updateLeft}
 use Rattle.reparse_update.specs.Points.{SucceedsWith, Gets, Passes, Points}
 use Rattle.reparse_update.proofs.Checked.{never-zero, never-updated}
 use Rattle.reparse_update.proofs.Input.{Parts, parts-of}

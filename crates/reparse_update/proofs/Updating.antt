@@ -31,7 +31,7 @@ use Rattle.reparse_update.specs.declared.Update.the-variants.{Delete}
 use Rattle.reparse_update.specs.declared.Updated.{Updated}
 use Rattle.reparse_update.specs.Update.{givenTag, givenLength, givenData, isLaidOut, isDelete, givenCheck, pointChange, pointPosting, rejection, Point, withPoint, newPoint, updateCheck, Left, leftBy, updateLeft, Updates}
 use Rattle.reparse_update.specs.Steps.{Posted, Posts, Clears}
-use Rattle.reparse_update.proofs.Input.{Parts, parts-of}
+use Rattle.reparse_update.proofs.Input.{parts-of}
 use Rattle.reparse_update.proofs.Checked.{never-zero, never-rejected}
 
 -- no post is rejected with the status of a success

@@ -1,6 +1,6 @@
 -- `guid_given` meets its contract: the sixteen bytes behind the numbers, or zeroes.
 -- Assumes nothing.
-use mathlib.Core.Path.{_≡_, refl, sym}
+use mathlib.Core.Path.{refl}
 use Prim.Native.Nat.{_≤_}
 use native.Mathlib.Omega.{arith}
 use lib.ListN.{length, drop, length-take}

@@ -2,7 +2,7 @@
 -- Assumes nothing.
 use mathlib.Core.Path.{_∙_}
 use native.Mathlib.Omega.{arith}
-use borrow.Author.Tests.{eq-eqb, ne-eqb, le-leb, lt-leb}
+use borrow.Author.Tests.{eq-eqb, ne-eqb, le-leb}
 use Rattle.reparse_update.proofs.Input.{parts-of, guid-decides}
 use Rattle.reparse_update.proofs.has_other_guid.Statement.{statement}
 use Rattle.reparse_update.proofs.has_other_guid.Tie as tie

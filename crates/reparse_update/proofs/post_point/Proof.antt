@@ -1,6 +1,6 @@
 -- `post_point` meets its contract: the post's own, with the file's Usn in its record.
 -- Assumes nothing.
-use mathlib.Core.Path.{refl, ap}
+use mathlib.Core.Path.{ap}
 use Prim.Native.Nat.{ℕ}
 use borrow.Author.Needs.{needs}
 use Rattle.volume.specs.declared.Outcome.{Outcome}

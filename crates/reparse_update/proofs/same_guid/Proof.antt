@@ -1,6 +1,6 @@
 -- `same_guid` meets its contract: two GUIDs are one if both their halves are.
 -- Assumes nothing.
-use mathlib.Core.Path.{_≡_, sym, ap₂, _∙_}
+use mathlib.Core.Path.{sym, ap₂, _∙_}
 use native.Mathlib.Omega.{arith}
 use lib.Dec.{eqb}
 use Rattle.file_ids.specs.Ids.{Id}
