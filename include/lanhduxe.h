@@ -19,9 +19,9 @@
  * it only the fields that are named with the call. Where such a call refuses or its post is skipped, it stores nothing there, not even
  * what it found. The same holds of *file where a call that may change it refuses.
  *
- * The ring. Post, read, save, load, set and delete of a reparse point are lent a ring of `capacity` bytes, in which the byte at position p
- * stands at p modulo the capacity. It is sound if the capacity is right and the lent length equal to it, and from `first` to `last`, at most a capacity apart,
- * there are whole and right records. What a ring holds does not matter to a load.
+ * The ring. Post, read, save, load, set and delete of a reparse point are lent a ring of `capacity` bytes, in which the byte at position
+ * p stands at p modulo the capacity. It is sound if the capacity is right and the lent length equal to it, and from `first` to `last`,
+ * at most a capacity apart, there are whole and right records. What a ring holds does not matter to a load.
  *
  * Numbers. Replies and inputs are little-endian, laid out as [MS-FSCC] has them. A number of 64 bits is passed as its bit pattern;
  * where a layout has a signed one (i64), 2^63 and above is negative.
@@ -108,7 +108,7 @@ static inline int usn_is_refusal(uint32_t status)
 #define USN_STORE_MIN      16376u                       /* bytes of a file's store, at least: room for any reparse data */
 #define USN_REPARSE_MAX    16384u                       /* bytes of a reparse point's header and data */
 
-/* The reason with which a reparse point that is set or deleted is posted, by the number of [MS-FSCC]. */
+/* The reason of the record that a set or a delete of a reparse point posts, by the number of [MS-FSCC]. */
 #define USN_REASON_REPARSE_POINT_CHANGE 0x00100000u
 
 /* ---- Records ---- */

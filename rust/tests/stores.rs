@@ -1,6 +1,6 @@
 //! What the calls that change the volume record or a file's record store in them:
 //! nothing where they refuse, nothing in the volume record where a post is skipped,
-//! and else only the fields that they change.
+//! and else only the fields that they may change.
 //!
 //! A store of the number that is there already cannot be seen by its value. So
 //! both records lie on read-only pages, and the calls are made in a child process.

@@ -23,7 +23,7 @@ module _ (v : Volume) (ring : List ℕ) (f : FileRecord) (c : Change) (name : Li
     pub journal : Posted
     pub file : r .file ≡ withPoint f (postUsn v ring (pointChange c) name (f .usn)) (f .tag) (f .guid) (f .length)
 
-  -- or it has no reparse point either, where the post is not refused
+  -- where the post is not refused, the file's record has the post's Usn and no reparse point; where it is, it stays
   pub record Clears : Type 0 where
     pub journal : Posted
     pub cleared : number (r .status) ≡ 0 → r .file ≡ withPoint f (postUsn v ring (pointChange c) name (f .usn)) 0 (replicate 16 0) 0

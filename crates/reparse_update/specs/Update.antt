@@ -145,8 +145,8 @@ pub record Left : Type 0 where
 
 -- a refusal leaves all as it was
 abbrev pub leftBy : Option Status → Journal → Point → Journal → Point → Left
-leftBy none j p k q = record { status = Success; journal = k; point = q }
-leftBy (some x) j p k q = record { status = x; journal = j; point = p }
+leftBy none j p k new = record { status = Success; journal = k; point = new }
+leftBy (some x) j p k new = record { status = x; journal = j; point = p }
 
 -- the post, and the file's Usn from it
 abbrev pub updateLeft : Update → Journal → Point → Posting → List ℕ → Left
