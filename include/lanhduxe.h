@@ -1,5 +1,5 @@
 /*
- * The C interface of the library: a volume's change journal and six controls on it and on its files. docs/USING.md says how a
+ * The C interface of the library: a volume's change journal and seven controls on it and on its files. docs/USING.md says how a
  * server works with it.
  *
  * Build the library with `rt staticlib lanhduxe` and link target/staticlib/liblanhduxe.a (x86-64 Linux). It calls no function but
@@ -27,8 +27,8 @@
  * where a layout has a signed one (i64), 2^63 and above is negative.
  *
  * Names. A name is code units of 16 bits, little-endian: at most USN_NAME_MAX bytes, an even number of them, and no code unit 0, 0x2F ('/')
- * or 0x5C ('\\'). That is asked wherever a name is judged: of a post, of every record in a ring, of every link, of a record that is read
- * and of every record in an image. The name of a post, and of a record in a ring or an image, is not empty.
+ * or 0x5C ('\\'). That is asked wherever a name is judged: of a post, of every record in a ring, of every link, of every row of a table, of a
+ * record that is read and of every record in an image. The name of a post, and of a record in a ring or an image, is not empty.
  *
  * Ids. A file's id, and its parent's, is a number of 128 bits, passed as its sixteen bytes. Any number is one. An id is wide if one of its
  * upper eight bytes is not 0. A record of version 3 has all sixteen bytes; one of version 2 has the lower eight, and cannot show a wide id.
@@ -59,8 +59,9 @@ extern "C" {
  * version 7 usn_save_journal is told the form of the image, usn_load_journal takes form 2 too, and usn_move_image moves an image from one
  * form to the other. Since version 8 usn_file has the length of the reparse data, usn_get_reparse_point is lent a store of USN_STORE_MIN
  * bytes or more of which that length is the data, and usn_set_reparse_point and usn_delete_reparse_point change a file's reparse point.
+ * Since version 9 usn_enumerate_files gives the files of a table.
  */
-#define LANHDUXE_VERSION 8
+#define LANHDUXE_VERSION 9
 
 /* ---- Statuses, by the numbers of [MS-ERREF] ---- */
 
@@ -68,6 +69,7 @@ extern "C" {
 #define USN_BUFFER_OVERFLOW            0x80000005u
 #define USN_INVALID_PARAMETER          0xC000000Du
 #define USN_INVALID_DEVICE_REQUEST     0xC0000010u
+#define USN_END_OF_FILE                0xC0000011u
 #define USN_BUFFER_TOO_SMALL           0xC0000023u
 #define USN_UNKNOWN_REVISION           0xC0000058u
 #define USN_DISK_FULL                  0xC000007Fu
@@ -100,7 +102,7 @@ static inline int usn_is_refusal(uint32_t status)
 #define USN_NAME_MAX       510u                         /* bytes of a name */
 #define USN_CAPACITY_MIN   1024u                        /* bytes of a ring, always a multiple of 8 */
 #define USN_CAPACITY_MAX   65536u
-#define USN_READ_ROOM      600u                         /* a read with so many bytes of output has room for any record */
+#define USN_READ_ROOM      600u                         /* a read or an enumeration with so many bytes of output has room for any record */
 #define USN_REGIONS_ROOM   64u                          /* a region query with so many bytes of output has room for every region */
 #define USN_POSITION_LIMIT UINT64_C(0x8000000000000000) /* 2^63, the first number that is no position and no Usn */
 #define USN_LIST_MAX       65536u                       /* bytes of a reply that usn_list_reply lists */
@@ -119,7 +121,7 @@ typedef struct usn_volume {
     uint32_t regions;  /* usn_query_file_regions */
     uint32_t reparse;  /* usn_get_reparse_point, usn_set_reparse_point, usn_delete_reparse_point */
     uint32_t points;   /* reparse points at all */
-    uint32_t journal;  /* usn_post, usn_read_journal, usn_save_journal, usn_load_journal */
+    uint32_t journal;  /* usn_post, usn_read_journal, usn_save_journal, usn_load_journal, usn_enumerate_files */
     uint32_t state;    /* one of USN_STATE_ */
     uint64_t id;       /* the journal's id, or the last one used */
     uint64_t first;    /* where the oldest kept record begins, a multiple of 8 */
@@ -161,6 +163,16 @@ typedef struct usn_link {
     uint32_t length;       /* the name's length in bytes: even, 0 to USN_NAME_MAX, inside the pool; its code units as above (Names) */
     uint32_t short_length; /* its short name's length; only 0 or not matters */
 } usn_link;
+
+/* One file of a table: 56 bytes, a row. */
+typedef struct usn_entry {
+    usn_id id;            /* no other row's, and not 2^64 - 1 */
+    usn_id parent;
+    uint64_t usn;         /* the Usn of its last change, below 2^63 */
+    uint32_t attributes;  /* 0 is written as 0x80 */
+    uint32_t name_length; /* the name's length in bytes: even, 0 to USN_NAME_MAX, inside the pool; its code units as above (Names) */
+    uint64_t name_place;  /* where its name begins in the name pool */
+} usn_entry;
 
 /* ---- Answers ---- */
 
@@ -300,7 +312,7 @@ static inline void usn_put_read_input(uint8_t bytes[USN_READ_INPUT_SIZE], usn_re
 usn_answer usn_read_journal(usn_volume volume, const uint8_t *ring, size_t ring_size,
                             const uint8_t *input, size_t input_size, uint8_t *output, size_t output_size);
 
-/* The position of a reply of usn_read_journal; the reply has 8 bytes at least. */
+/* The position of a reply of usn_read_journal, or the id to go on from of one of usn_enumerate_files; the reply has 8 bytes at least. */
 static inline uint64_t usn_reply_position(const uint8_t *reply)
 {
     return usn_get_number(reply, 8);
@@ -432,12 +444,65 @@ uint32_t usn_set_reparse_point(usn_volume *volume, uint8_t *ring, size_t ring_si
 uint32_t usn_delete_reparse_point(usn_volume *volume, uint8_t *ring, size_t ring_size, usn_file *file, const uint8_t *store, size_t store_size,
                                   usn_change change, const uint8_t *name, size_t name_size, const uint8_t *input, size_t input_size);
 
+/* ---- The volume's files ---- */
+
+/* What an enumeration asks for: files from an id on, with a Usn from low to high. */
+typedef struct usn_enum_input {
+    uint64_t start;   /* an id, the last reply's; 0 for all */
+    int64_t low;      /* the lowest Usn */
+    int64_t high;     /* the highest Usn; INT64_MAX for all */
+    uint16_t lowest;  /* the versions */
+    uint16_t highest;
+} usn_enum_input;
+
+#define USN_ENUM_INPUT_SIZE 32
+
+/* Lays out the input of usn_enumerate_files. */
+static inline void usn_put_enum_input(uint8_t bytes[USN_ENUM_INPUT_SIZE], usn_enum_input input)
+{
+    usn_put_number(bytes, input.start, 8);
+    usn_put_number(bytes + 8, (uint64_t)input.low, 8);
+    usn_put_number(bytes + 16, (uint64_t)input.high, 8);
+    usn_put_number(bytes + 24, input.lowest, 2);
+    usn_put_number(bytes + 26, input.highest, 2);
+    usn_put_number(bytes + 28, 0, 4);
+}
+
+/*
+ * usn_enumerate_files with its table as bytes: rows of 56, each laid out as a usn_entry is, little-endian. A table of any other number of
+ * bytes than whole rows have is FILE_CORRUPT_ERROR.
+ */
+usn_answer usn_enumerate_rows(usn_volume volume, const uint8_t *table, size_t table_size, const uint8_t *pool, size_t pool_size,
+                              const uint8_t *input, size_t input_size, uint8_t *output, size_t output_size);
+
+/*
+ * Gives USN records of the files of a table as they are now, by rising id (FSCTL_ENUM_USN_DATA): an id of 8 bytes, then the records of
+ * the selected files, each as usn_read_file gives one, with the name of its row, up to the first that does not fit. Selected is a file
+ * with an id that is the start or above and a Usn from LowUsn to HighUsn, both ends in, where neither its id nor its parent's is wide.
+ * The id in front is that of the first selected file that did not fit, or else that of the last one given plus 1. A caller returns with
+ * it as its next start, and with USN_READ_ROOM bytes of output or more, over a table that does not change, comes to every selected file
+ * once, in order, and then to END_OF_FILE. The journal's state does not matter, and no Usn is compared with the journal's.
+ * The rows may stand in any order. A table by rising id is judged and read in a few passes; any other takes time that grows with the
+ * square of its rows.
+ * Input: the start id u64, LowUsn i64 and HighUsn i64, both signed; from 32 bytes on also the lowest and highest version, u16 each, and 4
+ * bytes that are ignored, else the version is 2.
+ * INVALID_DEVICE_REQUEST without support; FILE_CORRUPT_ERROR for a bad row, be it selected or not: a bad name, a negative Usn, the id
+ * 2^64 - 1, or an id that stands twice, all sixteen bytes compared; INVALID_PARAMETER below 24 bytes of input, then for the versions;
+ * BUFFER_TOO_SMALL below 8 bytes of output; END_OF_FILE where nothing is selected; BUFFER_TOO_SMALL if the first selected file's record
+ * has no room.
+ */
+static inline usn_answer usn_enumerate_files(usn_volume volume, const usn_entry *table, size_t count, const uint8_t *pool, size_t pool_size,
+                                             const uint8_t *input, size_t input_size, uint8_t *output, size_t output_size)
+{
+    return usn_enumerate_rows(volume, (const uint8_t *)table, count * sizeof *table, pool, pool_size, input, input_size, output, output_size);
+}
+
 /* ---- Reading a reply ---- */
 
 /* Reads the record at place `at`, with any ids. INVALID_PARAMETER where no whole and right record stands there. */
 usn_record usn_read_record(const uint8_t *bytes, size_t size, size_t at);
 
-/* Walks a whole reply of usn_read_journal. INVALID_PARAMETER, with the place, where it is bad. */
+/* Walks a whole reply of usn_read_journal or usn_enumerate_files. INVALID_PARAMETER, with the place, where it is bad. */
 usn_walk usn_walk_reply(const uint8_t *reply, size_t size);
 
 /* The room that the text of a reply wants. */

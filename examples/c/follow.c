@@ -8,6 +8,40 @@ static usn_answer read_journal(uint64_t id, uint64_t start, uint32_t mask, uint8
     return ask(input, sizeof input, reply, reply_size);
 }
 
+/* Hands each record of a reply to `take`, and gives the number in front of them. */
+static uint32_t read_reply(const uint8_t *reply, size_t size, void (*take)(const usn_record *, const uint8_t *), uint64_t *front)
+{
+    usn_walk walk = usn_walk_reply(reply, size);
+    if (walk.status != USN_SUCCESS) /* damaged on the way: ask again */
+        return walk.status;
+    for (size_t at = 8; at < size;) {
+        usn_record record = usn_read_record(reply, size, at);
+        take(&record, reply + record.name);
+        at = record.next;
+    }
+    *front = walk.position;
+    return USN_SUCCESS;
+}
+
+/* Sees every file of the server, by rising id. */
+static uint32_t list_files(void)
+{
+    static uint8_t reply[8192];
+    usn_enum_input wanted = { .high = INT64_MAX, .lowest = 2, .highest = 3 };
+    for (;;) {
+        uint8_t input[USN_ENUM_INPUT_SIZE];
+        usn_put_enum_input(input, wanted);
+        usn_answer answer = ask_files(input, sizeof input, reply, sizeof reply);
+        if (answer.status == USN_END_OF_FILE) /* these were all */
+            return USN_SUCCESS;
+        if (answer.status != USN_SUCCESS)
+            return answer.status;
+        uint32_t status = read_reply(reply, answer.count, see_file, &wanted.start);
+        if (status != USN_SUCCESS)
+            return status;
+    }
+}
+
 /* Begins, or begins anew. First the place to read from, then the files: what changes meanwhile comes as records. */
 uint32_t begin(follower *self)
 {
@@ -17,7 +51,10 @@ uint32_t begin(follower *self)
     if (answer.status != USN_SUCCESS)
         return answer.status;
     fresh.position = usn_reply_position(reply);
-    look_at_files();
+    forget_files();
+    uint32_t status = list_files();
+    if (status != USN_SUCCESS)
+        return status;
     *self = fresh;
     keep(self);
     return USN_SUCCESS;
@@ -35,17 +72,13 @@ uint32_t follow(follower *self)
             return begin(self);
         if (answer.status != USN_SUCCESS)               /* nothing was read, and the next turn asks for the same */
             return answer.status;
-        usn_walk walk = usn_walk_reply(reply, answer.count);
-        if (walk.status != USN_SUCCESS)                 /* damaged on the way: ask again */
-            return walk.status;
-        for (size_t at = 8; at < answer.count;) {
-            usn_record record = usn_read_record(reply, answer.count, at);
-            act_on(&record, reply + record.name);
-            at = record.next;
-        }
-        if (walk.position == self->position)
+        uint64_t position;
+        uint32_t status = read_reply(reply, answer.count, act_on, &position);
+        if (status != USN_SUCCESS)
+            return status;
+        if (position == self->position)
             return USN_SUCCESS;
-        self->position = walk.position;                 /* only now: a restart before this reads these records again */
+        self->position = position;                      /* only now: a restart before this reads these records again */
         keep(self);
     }
 }

@@ -22,10 +22,16 @@ usn_answer ask(const uint8_t *input, size_t input_size, uint8_t *reply, size_t r
 /* Acts on one change. */
 void act_on(const usn_record *record, const uint8_t *name);
 
-/* Looks at every file, as one does that knows of no change. */
-void look_at_files(void);
+/* The same with the input of an enumeration. */
+usn_answer ask_files(const uint8_t *input, size_t input_size, uint8_t *reply, size_t reply_size);
 
-/* Both return the server's status. */
+/* Forgets the files that it knew: a fresh list begins. */
+void forget_files(void);
+
+/* Takes a file of that list. */
+void see_file(const usn_record *record, const uint8_t *name);
+
+/* Both return the server's status. Where `begin` does not succeed, it is to be called again: the list may be cut. */
 uint32_t begin(follower *self);
 uint32_t follow(follower *self);
 

@@ -19,6 +19,11 @@
 uint8_t ring[USN_CAPACITY_MIN];
 usn_volume volume;
 
+/* The files, by rising id, and their names. */
+static usn_entry table[8];
+static size_t files;
+static uint8_t pool[70];
+
 static int folder;
 static follower service;
 
@@ -38,18 +43,31 @@ static void want(int done, const char *what)
     }
 }
 
-static void post_name(uint64_t file, const uint8_t *letters, size_t size)
+/* The row of a file, which is new or the one with the highest id. */
+static usn_entry *row_of(uint64_t file)
 {
-    usn_change change = { .file = usn_id_of(file), .parent = usn_id_of(5), .reason = 0x80000002 };
-    uint64_t usn = 0;
-    expect(usn_post(&volume, ring, sizeof ring, change, letters, size, &usn));
+    if (files == 0 || usn_get_number(table[files - 1].id.bytes, 8) < file) {
+        want(files < sizeof table / sizeof table[0], "a table with room");
+        table[files++] = (usn_entry){ .id = usn_id_of(file), .parent = usn_id_of(5) };
+    }
+    return &table[files - 1];
+}
+
+/* The name stands in the pool. The row has its Usn from the post. */
+static void post_name(uint64_t file, uint64_t place, uint32_t length)
+{
+    usn_entry *row = row_of(file);
+    usn_change change = { .file = row->id, .parent = row->parent, .reason = 0x80000002 };
+    row->name_place = place;
+    row->name_length = length;
+    expect(usn_post(&volume, ring, sizeof ring, change, pool + place, length, &row->usn));
     want(save(folder), "save");
 }
 
 static void post(uint64_t file, int times)
 {
     for (int i = 0; i < times; i++)
-        post_name(file, (const uint8_t *)"a", 2);
+        post_name(file, 0, 2);
     printf("posted %d\n", times);
 }
 
@@ -75,11 +93,9 @@ static void restart(void)
 /* Posts just as much as the ring holds, so that its image is as long as an image of it may be. */
 static void fill_ring(void)
 {
-    uint8_t letters[68];
-    memset(letters, 'a', sizeof letters);
     create_anew();
     post(46, 11);
-    post_name(46, letters, sizeof letters);
+    post_name(46, 2, sizeof pool - 2);
     want(volume.last - volume.first == sizeof ring, "a full ring");
 }
 
@@ -144,18 +160,35 @@ usn_answer ask(const uint8_t *input, size_t input_size, uint8_t *reply, size_t r
     return usn_read_journal(volume, ring, sizeof ring, input, input_size, reply, reply_size);
 }
 
-void act_on(const usn_record *record, const uint8_t *name)
+static void print_record(const char *what, const usn_record *record, const uint8_t *name)
 {
-    printf("  file %" PRIu64 ", name %c, Usn %" PRIu64 "\n", usn_get_number(record->file.bytes, 8), name[0], record->usn);
+    printf("  %s %" PRIu64 ", name %c, Usn %" PRIu64 "\n", what, usn_get_number(record->file.bytes, 8), name[0], record->usn);
 }
 
-void look_at_files(void)
+void act_on(const usn_record *record, const uint8_t *name)
 {
-    printf("  looks at the files\n");
+    print_record("file", record, name);
+}
+
+usn_answer ask_files(const uint8_t *input, size_t input_size, uint8_t *reply, size_t reply_size)
+{
+    return usn_enumerate_files(volume, table, files, pool, sizeof pool, input, input_size, reply, reply_size);
+}
+
+void forget_files(void)
+{
+    printf("  lists the files\n");
+}
+
+void see_file(const usn_record *record, const uint8_t *name)
+{
+    print_record("sees file", record, name);
 }
 
 int main(void)
 {
+    memset(pool, 'a', sizeof pool); /* a name of one letter, and one of 34 */
+    pool[1] = 0;
     char name[] = "/tmp/lanhduxe-XXXXXX";
     want(mkdtemp(name) != NULL, "mkdtemp");
     folder = open(name, O_RDONLY | O_DIRECTORY);

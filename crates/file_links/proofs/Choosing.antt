@@ -11,7 +11,7 @@ use lib.ListN.{length, drop, getD, drop-of-length-le, List·getD-eq-default}
 use lib.Seq.{drop-cons}
 use borrow.Author.Tests.{eq-eqb, ne-eqb, le-leb}
 use Rattle.le.proofs.Runs.{and-left, and-right}
-use Rattle.names.specs.Names.{goodUnits, goodName}
+use Rattle.names.specs.Names.{goodUnits, goodName, goodIn}
 use Rattle.file_links.specs.declared.Link.{Link}
 use Rattle.file_links.specs.Links.{linksOf, goodLink, goodLinks, hasShort, hasName, firstOf, noLink, chosenLink}
 use Rattle.file_links.specs.Steps.{has, firstNonzero}
@@ -31,7 +31,7 @@ first-good pool wanted (l ∷ ls) other g h =
     either-good pool (wanted l) l (firstOf wanted ls other) (and-left _ _ g) (first-good pool wanted ls other (and-right (goodLink pool l) _ g) h)
 
 pub no-link-good : (pool : List ℕ) → goodLink pool noLink ≡ true
-unfolding goodLink goodName goodUnits
+unfolding goodLink goodIn goodName goodUnits
 no-link-good pool = rw (le-leb 0 (length pool) (omega arith))
 
 pub chosen-good : (pool : List ℕ) (ls : List Link) → goodLinks pool ls ≡ true → goodLink pool (chosenLink ls) ≡ true

@@ -12,30 +12,19 @@ use lib.Seq.{drop-cons}
 use borrow.Author.Tests.{eqb-true, le-leb, lt-leb, leb-true, not-true, not-false}
 use Rattle.le.proofs.Runs.{and-left, and-right}
 use Rattle.names.specs.Names.{goodName}
+use Rattle.names.proofs.Names.{in-fits, in-named}
 use Rattle.file_links.specs.declared.Link.{Link}
 use Rattle.file_links.specs.Links.{linksOf, nameAt, goodLink, goodLinks, goodTable}
 
--- ---- one link
+-- ---- what a good link tells
 
--- a name that ends past the pool
-pub link-past : (pool : List ℕ) (l : Link) → length pool < l .place + l .length → false ≡ goodLink pool l
-unfolding goodLink
-link-past pool l h = rw (lt-leb _ _ h)
-
--- a name inside the pool
-pub link-inside : (pool : List ℕ) (l : Link) (k : ℕ) (r : Bool) → l .place + l .length ≤ length pool → k ≡ l .length
-    → r ≡ goodName (take k (drop (l .place) pool)) → r ≡ goodLink pool l
-unfolding goodLink
-link-inside pool l k r h e g = g ∙ rw (e, le-leb _ _ h)
-
--- what a good link tells
 pub link-fits : (pool : List ℕ) (l : Link) → goodLink pool l ≡ true → l .place + l .length ≤ length pool
 unfolding goodLink
-link-fits pool l e = leb-true _ _ (and-left _ _ e)
+link-fits pool l e = in-fits pool (l .place) (l .length) e
 
 pub link-named : (pool : List ℕ) (l : Link) → goodLink pool l ≡ true → goodName (nameAt pool l) ≡ true
 unfolding goodLink
-link-named pool l e = and-right (leb (l .place + l .length) (length pool)) _ e
+link-named pool l e = in-named pool (l .place) (l .length) e
 
 -- ---- the table
 

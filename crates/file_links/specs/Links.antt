@@ -1,21 +1,21 @@
 -- A file's links: when their table is right, and whose name stands for the file.
 use mathlib.Core.Bool.{Bool, true, not, cond, _&&_}
 use mathlib.Core.List.{List, [], _∷_}
-use Prim.Native.Nat.{ℕ, _+_}
-use lib.Dec.{leb, eqb}
-use lib.ListN.{length, take, drop}
-use Rattle.names.specs.Names.{goodName}
+use Prim.Native.Nat.{ℕ}
+use lib.Dec.{eqb}
+use lib.ListN.{length}
+use Rattle.names.specs.Names.{nameIn, goodIn}
 use Rattle.file_links.specs.declared.Link.{Link}
 
 -- the name of a link
 abbrev pub nameAt : List ℕ → Link → List ℕ
-nameAt pool l = take (l .length) (drop (l .place) pool)
+nameAt pool l = nameIn pool (l .place) (l .length)
 
 -- ---- the table
 
 -- a name that lies inside the pool and may be one
 unfoldable pub goodLink : List ℕ → Link → Bool
-goodLink pool l = leb (l .place + l .length) (length pool) && goodName (nameAt pool l)
+goodLink pool l = goodIn pool (l .place) (l .length)
 
 unfoldable pub goodLinks : List ℕ → List Link → Bool
 goodLinks pool [] = true

@@ -5,7 +5,7 @@ ghost use Prim.Native.Nat.{_≤_};
 ghost use lib.ListN.{length};
 ghost use Rattle.file_links.specs.Links.{noLink, linksOf, goodLink, goodTable, chosenLink};
 ghost use Rattle.file_links.specs.Steps.{has, firstNonzero};
-use names::good_name;
+use names::good_in;
 
 // A link: the place and length of its name in a pool, and the length of its short name.
 #[repr(C)]
@@ -40,12 +40,7 @@ pub fn has_name(l: Link, short: bool) -> bool
 pub fn good_link(pool: &[u8], l: Link) -> bool
     ensures { λ r. ⌜ r ≡ goodLink (now (pool .entry)) l ⌝ }
 {
-    let from = l.place as usize;
-    let to = from + l.length as usize;
-    if pool.len() < to {
-        return false;
-    }
-    good_name(&pool[from..to])
+    good_in(pool, l.place as u64, l.length)
 }
 
 // Whether the whole table of links is right.

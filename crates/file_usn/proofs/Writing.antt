@@ -18,9 +18,9 @@ use Rattle.usn_record.proofs.Record.{length-layout}
 use Rattle.record_writer.specs.Write.{copyReply}
 use Rattle.file_record.specs.declared.FileRecord.{FileRecord}
 use Rattle.file_links.specs.declared.Link.{Link}
-use Rattle.file_links.specs.Links.{nameAt, goodLink}
-use Rattle.file_links.proofs.Tables.{link-named}
-use Rattle.names.proofs.Names.{short}
+use Rattle.file_links.specs.Links.{nameAt}
+use Rattle.names.specs.Names.{nameIn, goodIn}
+use Rattle.names.proofs.Names.{short, in-named}
 use Rattle.file_usn.specs.FileUsn.{fileCheck, fileFields, fileAnswer, namedReply}
 
 -- a record is written as the control answers
@@ -28,30 +28,32 @@ same-reply : (v : Version) (f : FileRecord) (p : List ℕ) (name : List ℕ) (ro
 unfolding fileAnswer
 same-reply v f p name room = rw (length-layout v (fileFields f p) name)
 
--- the lent parts, the second of which is empty, are a link's name
-module _ (pool : List ℕ) (l : Link) where
-  abbrev parts : List ℕ
+-- the lent parts, the second of which is empty, are a name in the pool
+module _ (pool : List ℕ) (place n : ℕ) where
+  abbrev pub parts : List ℕ
   parts =
-      let to = l .place + l .length in
-      take (to - l .place) (drop (l .place) pool) ++ take (to - to) (drop to pool)
+      let to = place + n in
+      take (to - place) (drop place pool) ++ take (to - to) (drop to pool)
 
-  are-name : parts ≡ nameAt pool l
+  pub are-name : parts ≡ nameIn pool place n
   are-name =
-      let to = l .place + l .length in
-      let a : to - l .place ≡ l .length = omega arith in
+      let to = place + n in
+      let a : to - place ≡ n = omega arith in
       let b : to - to ≡ 0 = omega arith in
       rw (a, b, append-nil)
 
-  pub parts-short : goodLink pool l ≡ true → length (take (l .place + l .length - l .place) (drop (l .place) pool)) + length (take (l .place + l .length - (l .place + l .length)) (drop (l .place + l .length) pool)) ≤ 510
+  pub parts-short : goodIn pool place n ≡ true → length (take (place + n - place) (drop place pool)) + length (take (place + n - (place + n)) (drop (place + n) pool)) ≤ 510
   parts-short g =
-      let to = l .place + l .length in
-      let e = length-append (take (to - l .place) (drop (l .place) pool)) (take (to - to) (drop to pool)) in
-      omega (arith, e, ap length are-name, short (nameAt pool l) (link-named pool l g))
+      let to = place + n in
+      let e = length-append (take (to - place) (drop place pool)) (take (to - to) (drop to pool)) in
+      omega (arith, e, ap length are-name, short (nameIn pool place n) (in-named pool place n g))
 
-  pub write-replied : (v : Version) (fields : Fields) (out last : List ℕ) (r : Answer) → Replied (copyReply (layout v fields parts) (length out)) r out last
+-- with a link's name
+module _ (pool : List ℕ) (l : Link) where
+  pub write-replied : (v : Version) (fields : Fields) (out last : List ℕ) (r : Answer) → Replied (copyReply (layout v fields (parts pool (l .place) (l .length))) (length out)) r out last
       → (f : FileRecord) (p : List ℕ) → fields ≡ fileFields f p → Replied (fileAnswer v f p (nameAt pool l) (length out)) r out last
   write-replied v fields out last r q f p h =
-      let same = ap₂ (λ (x : Fields) (y : List ℕ). copyReply (layout v x y) (length out)) h are-name ∙ same-reply v f p (nameAt pool l) (length out) in
+      let same = ap₂ (λ (x : Fields) (y : List ℕ). copyReply (layout v x y) (length out)) h (are-name pool (l .place) (l .length)) ∙ same-reply v f p (nameAt pool l) (length out) in
       subst (λ (y : Reply). Replied y r out last) same q
 
 -- with a bad table the name does not count

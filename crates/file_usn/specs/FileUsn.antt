@@ -35,19 +35,23 @@ fileCheck v f parent table input room =
     (else (fileVersions input)
     (else (unless (leb (nameOffset (fileVersion input) + 4) room) BufferTooSmall) (unless (showsIds (fileVersion input) (f .id) parent) NotSupported))))
 
--- TimeStamp, Reason, SourceInfo and SecurityId are 0; the parent is that of the open's own link
-abbrev pub fileFields : FileRecord → List ℕ → Fields
-fileFields f parent =
+-- a file as it is now, by its id, its parent's, its Usn and its attributes: TimeStamp, Reason, SourceInfo and SecurityId are 0
+abbrev pub currentFields : List ℕ → List ℕ → ℕ → ℕ → Fields
+currentFields id parent usn attributes =
     record {
-      file = f .id;
+      file = id;
       parent = parent;
-      usn = f .usn;
+      usn = usn;
       time = 0;
       reason = 0;
       source = 0;
       security = 0;
-      attributes = f .attributes;
+      attributes = attributes;
     }
+
+-- the parent is that of the open's own link
+abbrev pub fileFields : FileRecord → List ℕ → Fields
+fileFields f parent = currentFields (f .id) parent (f .usn) (f .attributes)
 
 -- the record with this name, if it has room
 unfoldable pub fileAnswer : Version → FileRecord → List ℕ → List ℕ → ℕ → Reply

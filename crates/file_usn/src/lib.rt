@@ -7,7 +7,7 @@ ghost use lib.ListN.{length};
 ghost use Rattle.status.specs.Reply.{Replied};
 ghost use Rattle.usn_record.specs.Version.{chosen};
 ghost use Rattle.file_links.specs.Links.{nameAt, goodLink};
-ghost use Rattle.file_usn.specs.FileUsn.{fileVersion, fileCheck, fileFields, fileAnswer, namedReply, tableReply};
+ghost use Rattle.file_usn.specs.FileUsn.{fileVersion, fileCheck, currentFields, fileFields, fileAnswer, namedReply, tableReply};
 use file_ids::FileId;
 use file_links::Link;
 use file_links::choose_link;
@@ -61,20 +61,19 @@ fn judge_file(
     }
 }
 
-// The fields of a file's record.
-fn fields_of(f: FileRecord, parent: FileId) -> Fields
-    ensures { λ r. ⌜ r ≡ fileFields f parent ⌝ }
+// The fields of the record of a file as it is now.
+pub fn fields_of(file: FileId, parent: FileId, usn: u64, attributes: u32) -> Fields
+    ensures { λ r. ⌜ r ≡ currentFields file parent usn attributes ⌝ }
 {
-    let file = f.id;
     Fields {
         file,
         parent,
-        usn: f.usn,
+        usn,
         time: 0,
         reason: 0,
         source: 0,
         security: 0,
-        attributes: f.attributes,
+        attributes,
     }
 }
 
@@ -105,7 +104,11 @@ pub fn read_chosen(
     let choice = judge_file(v, f, parent, table, input, output.len());
     match choice {
         Choice::Refuse(x) => status::refused(x),
-        Choice::Use(version) => write_file(version, fields_of(f, parent), pool, link, output),
+        Choice::Use(version) => {
+            let file = f.id;
+            let fields = fields_of(file, parent, f.usn, f.attributes);
+            write_file(version, fields, pool, link, output)
+        }
     }
 }
 

@@ -6,10 +6,10 @@ use mathlib.Core.Bool.{Bool, true, false, not, _&&_}
 use Prim.Native.Nat.{ℕ, _+_, _%_, _≤_, _<_}
 use native.Mathlib.Omega.{arith}
 use lib.Dec.{leb, eqb}
-use lib.ListN.{length, length-append}
+use lib.ListN.{length, take, drop, length-append}
 use borrow.Author.Tests.{leb-true, leb-false, not-true, not-false, eq-eqb, ne-eqb, le-leb, lt-leb}
-use Rattle.le.proofs.Runs.{and-left}
-use Rattle.names.specs.Names.{goodUnits, goodName}
+use Rattle.le.proofs.Runs.{and-left, and-right}
+use Rattle.names.specs.Names.{goodUnits, goodName, nameIn, goodIn}
 use Rattle.names.proofs.Units.{units-append}
 
 -- what a good name says of its length
@@ -71,3 +71,26 @@ module _ (head tail : List ℕ) (even : length head % 2 ≡ 0) where
 
       pub both-good : not h ≡ false → leb (length head + length tail) 510 ≡ goodName (head ++ tail)
       both-good n = rw (parts (leb (length head + length tail) 510) refl, ← p, ← q, not-false g m, not-false h n)
+
+-- ---- in a pool
+
+module _ (pool : List ℕ) (place n : ℕ) where
+  -- it ends past the pool
+  pub past-pool : length pool < place + n → false ≡ goodIn pool place n
+  unfolding goodIn
+  past-pool h = rw (lt-leb _ _ h)
+
+  -- it does not
+  pub inside-pool : (k : ℕ) (r : Bool) → place + n ≤ length pool → k ≡ n → r ≡ goodName (take k (drop place pool)) → r ≡ goodIn pool place n
+  unfolding goodIn
+  inside-pool k r h e g = g ∙ rw (e, le-leb _ _ h)
+
+  -- what a good one tells
+  module _ (e : goodIn pool place n ≡ true) where
+    pub in-fits : place + n ≤ length pool
+    unfolding goodIn
+    in-fits = leb-true _ _ (and-left _ _ e)
+
+    pub in-named : goodName (nameIn pool place n) ≡ true
+    unfolding goodIn
+    in-named = and-right (leb (place + n) (length pool)) _ e

@@ -4,7 +4,7 @@ ghost use mathlib.Core.List.{_++_};
 ghost use Prim.Native.Nat.{_+_, _%_};
 ghost use lib.Bits.{bitAnd};
 ghost use lib.ListN.{length};
-ghost use Rattle.names.specs.Names.{goodUnit, goodUnits, goodName};
+ghost use Rattle.names.specs.Names.{goodUnit, goodUnits, goodName, goodIn};
 
 // Bit 15 of each of the four code units of a word.
 const TOPS: u64 = 0x8000_8000_8000_8000;
@@ -94,6 +94,23 @@ pub fn good_name(name: &[u8]) -> bool
         return each_good(whole);
     }
     good_units(whole)
+}
+
+// Whether the `length` bytes from `place` on lie inside the pool and may be a name.
+pub fn good_in(pool: &[u8], place: u64, length: u32) -> bool
+    ensures { λ r. ⌜ r ≡ goodIn (now (pool .entry)) place length ⌝ }
+{
+    let n = length as usize;
+    if pool.len() < n {
+        return false;
+    }
+    // the end of a name could lie past any number, the last place for one does not
+    if pool.len() - n < place as usize {
+        return false;
+    }
+    let from = place as usize;
+    let to = from + n;
+    good_name(&pool[from..to])
 }
 
 // Whether there may be a name of these two parts, the first of which has whole code units.

@@ -9,7 +9,7 @@ use native.Mathlib.Omega.{arith}
 use lib.Dec.{leb}
 use lib.ListN.{length}
 use Rattle.status.specs.declared.Status.{Status}
-use Rattle.status.specs.declared.Status.the-variants.{Success, BufferOverflow, InvalidParameter, InvalidDeviceRequest, BufferTooSmall, UnknownRevision, DiskFull, NotSupported, FileCorruptError, NotAReparsePoint, IoReparseTagInvalid, IoReparseTagMismatch, IoReparseDataInvalid, VolumeNotUpgraded, ReparseAttributeConflict, JournalDeleteInProgress, JournalNotActive, JournalEntryDeleted}
+use Rattle.status.specs.declared.Status.the-variants.{Success, BufferOverflow, InvalidParameter, InvalidDeviceRequest, EndOfFile, BufferTooSmall, UnknownRevision, DiskFull, NotSupported, FileCorruptError, NotAReparsePoint, IoReparseTagInvalid, IoReparseTagMismatch, IoReparseDataInvalid, VolumeNotUpgraded, ReparseAttributeConflict, JournalDeleteInProgress, JournalNotActive, JournalEntryDeleted}
 use Rattle.status.specs.Number.{number}
 use Rattle.status.proofs.Checking.{Never, never-none, never-cond, nevers}
 use Rattle.usn_record.specs.declared.Version.{Version}
@@ -27,6 +27,8 @@ use Rattle.journal_read.specs.Input.{argumentCheck}
 use Rattle.journal_read.specs.Read.{deletedCheck, answerFrom, readAnswer, readReply}
 use Rattle.file_record.specs.declared.FileRecord.{FileRecord}
 use Rattle.file_usn.specs.FileUsn.{fileCheck, fileAnswer, namedReply}
+use Rattle.file_enumeration.specs.Enumerate.{inputCheck, enumCheck, enumReply}
+use Rattle.file_enumeration.specs.Enumerate as files
 use Rattle.file_regions.specs.declared.Asked.{Asked}
 use Rattle.file_regions.specs.Regions.{askedCheck, regionsCheck, regionsOf, listBytes, answerRegions, regionsAnswer, regionsReply}
 use Rattle.file_regions.proofs.Writing.{length-front}
@@ -43,13 +45,14 @@ use Rattle.reparse_update.specs.declared.Update.{Update}
 use Rattle.reparse_update.specs.Update.{givenCheck, rejection, Point, updateCheck, leftBy, updateLeft}
 use Rattle.history.specs.Calls.{Call, create, post, read, delete, finish, save, load, update, statusOf, next}
 use Rattle.refusals.proofs.Replies.{refutes, Fair, fair-give, fair-warn, fair-guard, fair-leb, fairs, fair-never}
-use Rattle.refusals.specs.Refusal.{isWarning, isRefusal, Control, readJournal, saveJournal, moveImage, readFile, readFileTable, queryRegions, getReparsePoint, listRecords, listImage, writeRecord, copyRecord, copyOlder, replyOf, usnAfter, Warned, Refusals}
+use Rattle.refusals.specs.Refusal.{isWarning, isRefusal, Control, readJournal, saveJournal, moveImage, readFile, readFileTable, enumerateFiles, queryRegions, getReparsePoint, listRecords, listImage, writeRecord, copyRecord, copyOlder, replyOf, usnAfter, Warned, Refusals}
 
 refusals-are-errors : (x : Status) → isRefusal x ≡ leb 0xC0000000 (number x)
 refusals-are-errors Success = refl
 refusals-are-errors BufferOverflow = refl
 refusals-are-errors InvalidParameter = refl
 refusals-are-errors InvalidDeviceRequest = refl
+refusals-are-errors EndOfFile = refl
 refusals-are-errors BufferTooSmall = refl
 refusals-are-errors UnknownRevision = refl
 refusals-are-errors DiskFull = refl
@@ -101,6 +104,10 @@ fair-move {W = W} s from room = fair-form (formVersion from)
     fair-form none = search fairs
     fair-form (some v) = search (fairs, fair-held)
 
+fair-files : {W : ℕ → Type 0} (v : Volume) (table pool input : List ℕ) (room : ℕ) → Fair W (enumReply v table pool input room)
+unfolding enumReply enumCheck inputCheck files.pageReply
+fair-files v table pool input room = search fairs depth 10
+
 -- a warning has a header and the first region, and no room for two
 fair-answer : (eof vdl : ℕ) (a : Asked) (room : ℕ) → Fair (λ n. (room < 64) × (n ≡ 40)) (answerRegions (regionsOf eof vdl a) room)
 unfolding answerRegions listBytes
@@ -119,6 +126,7 @@ fair-control (saveJournal v ring form) room = fair-save v ring form room
 fair-control (moveImage s from) room = fair-move s from room
 fair-control (readFile v f parent pool links input) room = search fairs depth 10
 fair-control (readFileTable v f parent pool places lengths shorts input) room = search fairs depth 10
+fair-control (enumerateFiles v table pool input) room = fair-files v table pool input room
 fair-control (queryRegions v f input) room =
     let p = fair-regions v f input room in
     record { refused = p .refused; warned = λ h. record { volume = v; file = f; input = input; query = refl; short = p .warned h .0; count = p .warned h .1 } }

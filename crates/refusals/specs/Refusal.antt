@@ -20,6 +20,7 @@ use Rattle.journal_read.specs.Read.{readReply}
 use Rattle.image_save.specs.Save.{saveReply}
 use Rattle.image_move.specs.Move.{moveReply}
 use Rattle.file_usn.specs.FileUsn.{fileReply, tableReply}
+use Rattle.file_enumeration.specs.Enumerate.{enumReply}
 use Rattle.file_regions.specs.Regions.{regionsReply}
 use Rattle.reparse_point.specs.Reparse.{reparseReply}
 use Rattle.journal_post.specs.Post.{postUsn}
@@ -50,6 +51,8 @@ pub data Control : Type 0 where
   readFile : Volume → FileRecord → List ℕ → List ℕ → List Link → List ℕ → Control
   -- the same with the links as three runs of numbers
   readFileTable : Volume → FileRecord → List ℕ → List ℕ → List ℕ → List ℕ → List ℕ → List ℕ → Control
+  -- volume record, table of files, pool of names, input
+  enumerateFiles : Volume → List ℕ → List ℕ → List ℕ → Control
   -- volume record, file record, input
   queryRegions : Volume → FileRecord → List ℕ → Control
   -- volume record, file record, store of the reparse data
@@ -71,6 +74,7 @@ replyOf (saveJournal v ring form) room = saveReply v ring form room
 replyOf (moveImage s from) room = moveReply from s room
 replyOf (readFile v f parent pool links input) room = fileReply v f parent pool links input room
 replyOf (readFileTable v f parent pool places lengths shorts input) room = tableReply v f parent pool places lengths shorts input room
+replyOf (enumerateFiles v table pool input) room = enumReply v table pool input room
 replyOf (queryRegions v f input) room = regionsReply v f input room
 replyOf (getReparsePoint v f store) room = reparseReply v f store room
 replyOf (listRecords s) room = listReply s room

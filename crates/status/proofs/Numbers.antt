@@ -8,7 +8,7 @@ use native.Mathlib.Omega.{arith}
 use lib.Dec.{eqb}
 use lib.ListN.{length}
 use Rattle.status.specs.declared.Status.{Status}
-use Rattle.status.specs.declared.Status.the-variants.{Success, BufferOverflow, InvalidParameter, InvalidDeviceRequest, BufferTooSmall, UnknownRevision, DiskFull, NotSupported, FileCorruptError, NotAReparsePoint, IoReparseTagInvalid, IoReparseTagMismatch, IoReparseDataInvalid, VolumeNotUpgraded, ReparseAttributeConflict, JournalDeleteInProgress, JournalNotActive, JournalEntryDeleted}
+use Rattle.status.specs.declared.Status.the-variants.{Success, BufferOverflow, InvalidParameter, InvalidDeviceRequest, EndOfFile, BufferTooSmall, UnknownRevision, DiskFull, NotSupported, FileCorruptError, NotAReparsePoint, IoReparseTagInvalid, IoReparseTagMismatch, IoReparseDataInvalid, VolumeNotUpgraded, ReparseAttributeConflict, JournalDeleteInProgress, JournalNotActive, JournalEntryDeleted}
 use Rattle.status.specs.declared.Judged.{Judged}
 use Rattle.status.specs.declared.Judged.the-variants.{Passed, Refused}
 use Rattle.status.specs.Number.{number}
@@ -23,6 +23,7 @@ named n =
     (cond (eqb n 0x80000005) BufferOverflow
     (cond (eqb n 0xC000000D) InvalidParameter
     (cond (eqb n 0xC0000010) InvalidDeviceRequest
+    (cond (eqb n 0xC0000011) EndOfFile
     (cond (eqb n 0xC0000023) BufferTooSmall
     (cond (eqb n 0xC0000058) UnknownRevision
     (cond (eqb n 0xC000007F) DiskFull
@@ -35,7 +36,7 @@ named n =
     (cond (eqb n 0xC000029C) VolumeNotUpgraded
     (cond (eqb n 0xC00002B2) ReparseAttributeConflict
     (cond (eqb n 0xC00002B7) JournalDeleteInProgress
-    (cond (eqb n 0xC00002B8) JournalNotActive JournalEntryDeleted))))))))))))))))
+    (cond (eqb n 0xC00002B8) JournalNotActive JournalEntryDeleted)))))))))))))))))
 
 named-number : (x : Status) → named (number x) ≡ x
 unfolding named
@@ -43,6 +44,7 @@ named-number Success = refl
 named-number BufferOverflow = refl
 named-number InvalidParameter = refl
 named-number InvalidDeviceRequest = refl
+named-number EndOfFile = refl
 named-number BufferTooSmall = refl
 named-number UnknownRevision = refl
 named-number DiskFull = refl

@@ -1,13 +1,14 @@
 -- The number of each status, as [MS-ERREF] has it.
 use Prim.Native.Nat.{ℕ}
 use Rattle.status.specs.declared.Status.{Status}
-use Rattle.status.specs.declared.Status.the-variants.{Success, BufferOverflow, InvalidParameter, InvalidDeviceRequest, BufferTooSmall, UnknownRevision, DiskFull, NotSupported, FileCorruptError, NotAReparsePoint, IoReparseTagInvalid, IoReparseTagMismatch, IoReparseDataInvalid, VolumeNotUpgraded, ReparseAttributeConflict, JournalDeleteInProgress, JournalNotActive, JournalEntryDeleted}
+use Rattle.status.specs.declared.Status.the-variants.{Success, BufferOverflow, InvalidParameter, InvalidDeviceRequest, EndOfFile, BufferTooSmall, UnknownRevision, DiskFull, NotSupported, FileCorruptError, NotAReparsePoint, IoReparseTagInvalid, IoReparseTagMismatch, IoReparseDataInvalid, VolumeNotUpgraded, ReparseAttributeConflict, JournalDeleteInProgress, JournalNotActive, JournalEntryDeleted}
 
 abbrev pub number : Status → ℕ
 number Success = 0
 number BufferOverflow = 0x80000005
 number InvalidParameter = 0xC000000D
 number InvalidDeviceRequest = 0xC0000010
+number EndOfFile = 0xC0000011
 number BufferTooSmall = 0xC0000023
 number UnknownRevision = 0xC0000058
 number DiskFull = 0xC000007F

@@ -1,4 +1,4 @@
-//! Follows the calls of the journal read and of the file read through the sources, and lists the arrays by value on the way. Fails on one
+//! Follows the calls of the journal read, of the file read and of the enumeration through the sources, and lists the arrays by value on the way. Fails on one
 //! above sixteen bytes. Takes the folder of the crates.
 
 use arrays::program::{sources, Program};
@@ -7,11 +7,13 @@ use std::path::Path;
 use std::process::ExitCode;
 
 /// The reads, as Rattle calls them and as C does.
-const READS: [&str; 4] = [
+const READS: [&str; 6] = [
     "journal_read::read_journal",
     "lanhduxe::usn_read_journal",
     "file_usn::read_file_usn",
     "lanhduxe::usn_read_file",
+    "file_enumeration::enumerate_files",
+    "lanhduxe::usn_enumerate_rows",
 ];
 
 /// The largest array that a function on the way of a read may hold, take or return by value, in bytes.

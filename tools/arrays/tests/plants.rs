@@ -198,6 +198,8 @@ fn one_in_each_read() {
         ("lanhduxe", "usn_read_journal"),
         ("file_usn", "read_file_usn"),
         ("lanhduxe", "usn_read_file"),
+        ("file_enumeration", "enumerate_files"),
+        ("lanhduxe", "usn_enumerate_rows"),
     ] {
         let item = format!("{name}::{function}");
         Planted::nothing()

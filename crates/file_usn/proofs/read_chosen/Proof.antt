@@ -43,7 +43,7 @@ sound m =
 
 write-file-requires : tie.Need-write-file-requires
 write-file-requires c κs =
-    let m = c .before .before .before in
+    let m = c .before .before .before .before in
     let s = start (m .before .before) in
     s .pre (and-right (ltb (s .args .f .usn) (2 ^ 63)) (s .args .table) (sound m))
 
@@ -60,7 +60,7 @@ unfolding namedReply
 returns-2 c =
     let r = c .before .before in
     let q = r .before .before in
-    let m = q .before .before in
+    let m = q .before .before .before in
     rw (passes m .0, ← (passes m .1)) (r .write-file .ensures _ _ (q .fields-of .ensures))
 
 pub read-chosen-spec : {M : Type 1} → statement M

@@ -1,6 +1,7 @@
 -- `write_file` meets its contract: the name of a good link lies inside the pool and is short, and the record with it is written.
 -- Assumes nothing.
 use native.Mathlib.Omega.{arith}
+use Rattle.file_links.specs.Links.{goodLink}
 use Rattle.file_links.proofs.Tables.{link-fits}
 use Rattle.file_usn.proofs.Writing.{write-replied, parts-short}
 use Rattle.file_usn.proofs.write_file.Statement.{statement}
@@ -17,9 +18,10 @@ part-put-split-end-2 c =
     omega (arith, link-fits (s .args .pool .now) (s .args .link) (s .pre))
 
 put-split-requires : tie.Need-put-split-requires
+unfolding goodLink
 put-split-requires c κs =
     let s = c .before .before .before .before .before .before .before in
-    omega (arith, parts-short (s .args .pool .now) (s .args .link) (s .pre))
+    omega (arith, parts-short (s .args .pool .now) (s .args .link .place) (s .args .link .length) (s .pre))
 
 returns : tie.Need-returns
 returns c =

@@ -1,0 +1,3 @@
+pub mod Enumerate
+pub mod Steps
+pub mod Follow

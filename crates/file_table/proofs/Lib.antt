@@ -1,0 +1,4 @@
+pub mod Rows
+pub mod Rising
+pub mod Judging
+pub mod Places
