@@ -65,8 +65,8 @@ module _ (pool s : List ℕ) (at : ℕ) (place n : ℕ) (p : place ≡ numberAt 
   give-short = parts-short pool place n named
 
   module _ (b : Bytes s) (h : at + 56 ≤ length s) (middle behind : ℕ) (c : middle ≡ at + 16) (d : behind ≡ at + 32) (file parent : List ℕ) (usn attributes : ℕ)
-    (e : file ≡ idBytes (unle (take (middle - at) (drop at s)))) (f : parent ≡ idBytes (unle (take (behind - middle) (drop middle s))))
-    (i : usn ≡ numberAt s behind 8) (j : attributes ≡ numberAt s (at + 40) 4) where
+      (e : file ≡ idBytes (unle (take (middle - at) (drop at s)))) (f : parent ≡ idBytes (unle (take (behind - middle) (drop middle s))))
+      (i : usn ≡ numberAt s behind 8) (j : attributes ≡ numberAt s (at + 40) 4) where
     -- the fields are those of the row
     fields-are : currentFields file parent usn attributes ≡ rowFields r
     fields-are =
@@ -265,6 +265,6 @@ module _ (v : Version) (pool table o : List ℕ) (g : goodTable pool table ≡ t
                       page = (
                         j .0 ∙ ap (λ (x : Page). x .next) same,
                         j .1 ∙ ap (λ (y : List ℕ). i .bytes ++ y) (bytes-more v pool r (rest v pool left next r files .given)) ∙ sym (append-assoc (i .bytes) (rowBytes v pool r) (rowsBytes v pool (rest v pool left next r files .given)))
-                        ∙ ap₂ (λ (x : List ℕ) (y : Page). (i .bytes ++ x) ++ rowsBytes v pool (y .given)) (sym e) same,
+                            ∙ ap₂ (λ (x : List ℕ) (y : Page). (i .bytes ++ x) ++ rowsBytes v pool (y .given)) (sym e) same,
                       );
                     }

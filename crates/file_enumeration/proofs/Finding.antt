@@ -25,17 +25,21 @@ use Rattle.file_enumeration.proofs.Ordering.{selects-start, least-first
 module _ (q : Query) (table : List ℕ) where
   -- nothing is selected
   pub leads-none : length table % 56 ≡ 0 → ((r : Row) → List·Memᴰ r (rows table) → selects q r ≡ true → ⊥) → Leads q table (length table)
-  leads-none w n =
-      (none-first q (rows table) n ∙ sym (ap (λ (b : Bool). cond b (rowAt table (length table) ∷ filesOf (startingAt q (suc (idAt table (length table)))) table) []) (le-ltb (length table) (length table) (omega arith))),
-      omega arith, w)
+  leads-none w n = (
+    none-first q (rows table) n ∙ sym (ap (λ (b : Bool). cond b (rowAt table (length table) ∷ filesOf (startingAt q (suc (idAt table (length table)))) table) []) (le-ltb (length table) (length table) (omega arith))),
+    omega arith,
+    w,
+  )
 
   -- the row at a place is selected, and no selected row is below it
   pub leads-at : (at : ℕ) → distinct (rows table) ≡ true → at + 56 ≤ length table → at % 56 ≡ 0 → selects q (rowAt table at) ≡ true
       → ((r : Row) → List·Memᴰ r (rows table) → selects q r ≡ true → idAt table at ≤ idNumber (r .id)) → Leads q table at
-  leads-at at d h m s l =
-      (least-first q (rows table) (rowAt table at) d (row-member table at m h) s l
-      ∙ sym (ap (λ (b : Bool). cond b (rowAt table at ∷ filesOf (startingAt q (suc (idAt table at))) table) []) (lt-ltb at (length table) (omega arith))),
-      omega arith, m)
+  leads-at at d h m s l = (
+    least-first q (rows table) (rowAt table at) d (row-member table at m h) s l
+        ∙ sym (ap (λ (b : Bool). cond b (rowAt table at ∷ filesOf (startingAt q (suc (idAt table at))) table) []) (lt-ltb at (length table) (omega arith))),
+    omega arith,
+    m,
+  )
 
 -- ---- a table in rising order
 

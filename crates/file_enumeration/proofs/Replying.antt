@@ -37,7 +37,7 @@ bytes-empty v pool [] e = refl
 bytes-empty v pool (r ∷ rs) e = absurd (omega (arith, e, length-append (rowBytes v pool r) (rowsBytes v pool rs), row-long v pool r))
 
 module _ (v : Version) (pool : List ℕ) (files : List Row) (some-file : isEmpty files ≡ false) (page : Page) (o : List ℕ) (h : 8 ≤ length o) (s : Sent) (last : List ℕ)
-  (e : Sends v pool page (lent 8 o) s last) where
+    (e : Sends v pool page (lent 8 o) s last) where
   abbrev bs : List ℕ
   bs = rowsBytes v pool (page .given)
 
@@ -82,9 +82,10 @@ unfolding inputCheck
 input-sized input room e =
     let short = unless (leb 24 (length input)) InvalidParameter in
     let small = unless (leb 8 room) BufferTooSmall in
-    let k = else-right short (else (enumVersions input) small) e in
-    (leb-true 24 (length input) (unless-true (leb 24 (length input)) InvalidParameter (else-left short (else (enumVersions input) small) e)),
-    leb-true 8 room (unless-true (leb 8 room) BufferTooSmall (else-right (enumVersions input) small k)))
+    let k = else-right short (else (enumVersions input) small) e in (
+      leb-true 24 (length input) (unless-true (leb 24 (length input)) InvalidParameter (else-left short (else (enumVersions input) small) e)),
+      leb-true 8 room (unless-true (leb 8 room) BufferTooSmall (else-right (enumVersions input) small k)),
+    )
 
 -- the volume and the table
 module _ (v : Volume) (table pool input : List ℕ) (room : ℕ) where

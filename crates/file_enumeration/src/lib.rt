@@ -168,7 +168,15 @@ fn give(out: &mut [u8], pool: &[u8], table: &[u8], at: usize, v: Version) -> usi
 }
 
 // Writes the records of the files from the first one, which stands at `first`, on, up to the first that does not fit.
-fn fill(out: &mut [u8], pool: &[u8], table: &[u8], ordered: bool, first: usize, q: Query, v: Version) -> Sent
+fn fill(
+    out: &mut [u8],
+    pool: &[u8],
+    table: &[u8],
+    ordered: bool,
+    first: usize,
+    q: Query,
+    v: Version,
+) -> Sent
     requires { ⌜ (goodTable (now pool) (now table) ≡ true) × (ordered ≡ true → rising (rows (now table)) ≡ true) × (Leads q (now table) first) ⌝ }
     ensures { λ r. ⌜ Sends v (now (pool .entry)) (pageOf v (now (pool .entry)) (length (now (out .entry))) (q .start) (filesOf q (now (table .entry)))) (now (out .entry)) r (now (out .exit)) ⌝ }
 {
@@ -195,10 +203,7 @@ fn fill(out: &mut [u8], pool: &[u8], table: &[u8], ordered: bool, first: usize, 
         };
         at = first_file(table, ordered, at + ROW, rest);
     }
-    Sent {
-        next,
-        count: done,
-    }
+    Sent { next, count: done }
 }
 
 // The version to reply in, or the first check of the input that refuses the call.
@@ -221,7 +226,14 @@ fn judge_input(input: &[u8], room: usize) -> Choice
 }
 
 // Replies with the files of a query: the id to go on from, and their records.
-fn give_files(output: &mut [u8], pool: &[u8], table: &[u8], ordered: bool, q: Query, v: Version) -> Answer
+fn give_files(
+    output: &mut [u8],
+    pool: &[u8],
+    table: &[u8],
+    ordered: bool,
+    q: Query,
+    v: Version,
+) -> Answer
     requires { ⌜ (8 ≤ length (now output)) × (goodTable (now pool) (now table) ≡ true) × (ordered ≡ true → rising (rows (now table)) ≡ true) ⌝ }
     ensures { λ r. ⌜ Replied (filesReply v (now (pool .entry)) q (now (table .entry)) (length (now (output .entry)))) r (now (output .entry)) (now (output .exit)) ⌝ }
 {
@@ -238,7 +250,13 @@ fn give_files(output: &mut [u8], pool: &[u8], table: &[u8], ordered: bool, q: Qu
 }
 
 // Enumerates the files of a table that is right, in rising order or not.
-fn enumerate_judged(pool: &[u8], table: &[u8], ordered: bool, input: &[u8], output: &mut [u8]) -> Answer
+fn enumerate_judged(
+    pool: &[u8],
+    table: &[u8],
+    ordered: bool,
+    input: &[u8],
+    output: &mut [u8],
+) -> Answer
     requires { ⌜ (goodTable (now pool) (now table) ≡ true) × (ordered ≡ true → rising (rows (now table)) ≡ true) ⌝ }
     ensures { λ r. ⌜ Replied (guard (inputCheck (now (input .entry)) (length (now (output .entry)))) (filesReply (enumVersion (now (input .entry))) (now (pool .entry)) (queryIn (now (input .entry))) (now (table .entry)) (length (now (output .entry))))) r (now (output .entry)) (now (output .exit)) ⌝ }
 {

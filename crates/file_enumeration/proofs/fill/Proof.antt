@@ -101,8 +101,7 @@ first-file-requires c κs =
     let s = k .before .before .before in
     let n : suc (idAt (a .table .now) (l .loop .at)) ≡ i .get .result + 1 = omega (arith, fill-id (a .v) (a .pool .now) (a .table .now) (a .out .now) (l .loop .inv .0) (a .q) (l .loop .out) (l .loop .next) (l .loop .at) (l .loop .done) (l .loop .inv .1) (t .loop-test .taken) (bytes k) (i .get .result) (i .get .ensures .0)) in
     let m = l .loop .inv .1 .leads .2 in
-    let w = table-whole (a .pool .now) (a .table .now) (s .pre .0) in
-    (
+    let w = table-whole (a .pool .now) (a .table .now) (s .pre .0) in (
       w,
       table-distinct (a .pool .now) (a .table .now) (s .pre .0),
       λ o. (
