@@ -33,8 +33,8 @@ use Rattle.file_table.specs.Table.{Row, rows, rowName, goodRow, goodTable}
 use Rattle.file_table.specs.Steps.{rowAt, idAt}
 use Rattle.file_table.proofs.Rows.{number-drop, run-bytes}
 use Rattle.file_table.proofs.Places.{table-whole, table-good, Right, right-row, row-member, row-good}
-use Rattle.file_enumeration.specs.Enumerate.{selects, filesOf, rowFields, rowBytes, rowLength, Page, pageOf, rowsBytes}
-use Rattle.file_enumeration.specs.Steps.{startingAt, Leads, givenBytes, Gives, Sends}
+use Rattle.file_enumeration.specs.Enumerate.{selects, filesOf, rowFields, rowBytes, rowLength, Page, pageOf, rowsBytes, startingAt}
+use Rattle.file_enumeration.specs.Steps.{Leads, givenBytes, Gives, Sends}
 use Rattle.file_enumeration.specs.declared.Query.{Query}
 use Rattle.file_enumeration.proofs.Ordering.{files-out}
 use Rattle.file_enumeration.proofs.Selecting.{next-fits, selected-low}
@@ -150,6 +150,15 @@ module _ (v : Version) (pool table o : List ℕ) (g : goodTable pool table ≡ t
       let n : done ≡ length (rowsBytes v pool (whole .given)) = sym (k .size) ∙ sym (ap length b) in
       (ap₂ (λ (x y : ℕ). record { next = x; count = y }) (sym (j .0)) n, k .whole ∙ ap (λ (y : List ℕ). y ++ drop done o) (sym b))
 
+  -- what a turn comes to, in which the file at `at`, with this id, was given by so many bytes, or by none
+  pub record Turned (out : List ℕ) (next at done id count : ℕ) (last : List ℕ) : Type 0 where
+    pub own : id ≡ idAt table at
+    pub successor : id + 1 < 2 ^ 64
+    pub room : done + count ≤ length o
+    pub same : length (back done out last) ≡ length o
+    pub cut : count ≡ 0 → Sends v pool (pageAt (length o) (q .start)) o (record { next = id; count = done }) (back done out last)
+    pub onward : (count ≡ 0 → ⊥) → (later : ℕ) → Leads (startingAt q (id + 1)) table later → Filled (back done out last) (id + 1) later (done + count)
+
   module _ (out : List ℕ) (next at done : ℕ) (i : Filled out next at done) where
     whole-rows : length table % 56 ≡ 0
     whole-rows = table-whole pool table g
@@ -176,10 +185,10 @@ module _ (v : Version) (pool table o : List ℕ) (g : goodTable pool table ≡ t
       chosen = files-out (startingAt q next) (rows table) (rowAt table at) (subst (λ (l : List Row). List·Memᴰ (rowAt table at) l) (sym met) (List·Memᴰ·head refl)) .1
 
       module _ (b : Bytes table) (id : ℕ) (e : id ≡ numberAt table at 8) where
-        pub fill-id : id ≡ idAt table at
+        fill-id : id ≡ idAt table at
         fill-id = e ∙ sym (selected-low table b at fill-inside (startingAt q next) chosen)
 
-        pub fill-next-id : id + 1 < 2 ^ 64
+        fill-next-id : id + 1 < 2 ^ 64
         fill-next-id =
             let k : Right pool (rowAt table at) = right-row pool table g b (rowAt table at) (row-member table at (i .leads .2) fill-inside) in
             omega (arith, fill-id, next-fits pool (startingAt q next) (rowAt table at) k chosen)
@@ -210,17 +219,17 @@ module _ (v : Version) (pool table o : List ℕ) (g : goodTable pool table ≡ t
               by true t = omega (arith, leb-true (rowLength v pool (rowAt table at)) left t, length-layout v (rowFields (rowAt table at)) (rowName pool (rowAt table at)))
               by false t = omega arith
 
-          pub fill-room : done + count ≤ length o
+          fill-room : done + count ≤ length o
           fill-room = omega (arith, answers .0, given-length, i .room)
 
           put-more : Put o (done + count) (i .bytes ++ given) (back done out last)
           put-more = put-next (i .put) count given last (sym (answers .0)) fill-room (answers .1)
 
-          pub fill-same : length (back done out last) ≡ length o
+          fill-same : length (back done out last) ≡ length o
           fill-same = put-length put-more fill-room
 
           -- it did not fit
-          pub fill-cut : count ≡ 0 → Sends v pool (pageAt (length o) (q .start)) o (record { next = id; count = done }) (back done out last)
+          fill-cut : count ≡ 0 → Sends v pool (pageAt (length o) (q .start)) o (record { next = id; count = done }) (back done out last)
           fill-cut z = by fitting refl (answers .0)
             where
               by : (t : Bool) → fitting ≡ t → count ≡ length (cond t (rowBytes v pool (rowAt table at)) []) → Sends v pool (pageAt (length o) (q .start)) o (record { next = id; count = done }) (back done out last)
@@ -238,7 +247,7 @@ module _ (v : Version) (pool table o : List ℕ) (g : goodTable pool table ≡ t
 
           -- it did
           module _ (n : count ≡ 0 → ⊥) (later : ℕ) (l : Leads (startingAt q (id + 1)) table later) where
-            pub fill-next : Filled (back done out last) (id + 1) later (done + count)
+            fill-next : Filled (back done out last) (id + 1) later (done + count)
             fill-next = by fitting refl (answers .0)
               where
                 files : List Row
@@ -268,3 +277,6 @@ module _ (v : Version) (pool table o : List ℕ) (g : goodTable pool table ≡ t
                             ∙ ap₂ (λ (x : List ℕ) (y : Page). (i .bytes ++ x) ++ rowsBytes v pool (y .given)) (sym e) same,
                       );
                     }
+
+          pub turned : Turned out next at done id count last
+          turned = record { own = fill-id; successor = fill-next-id; room = fill-room; same = fill-same; cut = fill-cut; onward = fill-next }

@@ -16,8 +16,8 @@ use Rattle.file_table.proofs.Rows.{rows-end, rows-next}
 use Rattle.file_table.proofs.Rising.{false-true, rising-rest, rising-below, rising-distinct}
 use Rattle.file_table.proofs.Places.{row-split, row-member}
 use Rattle.file_enumeration.specs.declared.Query.{Query}
-use Rattle.file_enumeration.specs.Enumerate.{selects, filesOf}
-use Rattle.file_enumeration.specs.Steps.{startingAt, filesFrom, Leads, Ahead, lowerOf}
+use Rattle.file_enumeration.specs.Enumerate.{selects, filesOf, startingAt}
+use Rattle.file_enumeration.specs.Steps.{filesFrom, Leads, Ahead, lowerOf}
 use Rattle.file_enumeration.proofs.Ordering.{selects-start, least-first, none-first}
 
 -- ---- by what is found

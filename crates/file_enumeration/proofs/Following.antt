@@ -42,8 +42,7 @@ use Rattle.file_table.specs.Table.{Row, rowIn, firstRows, rows, rowName, goodRo
 use Rattle.file_table.proofs.Rising.{rising-below}
 use Rattle.file_table.proofs.Places.{table-distinct, Right, right-row}
 use Rattle.file_enumeration.specs.declared.Query.{Query}
-use Rattle.file_enumeration.specs.Enumerate.{queryIn, enumVersion, fromLow, toHigh, selects, selected, byId, filesOf, rowFields, rowBytes, rowLength, Page, pageOf, rowsBytes, isEmpty, inputCheck, enumCheck, pageReply, filesReply, enumReply}
-use Rattle.file_enumeration.specs.Steps.{startingAt}
+use Rattle.file_enumeration.specs.Enumerate.{queryIn, enumVersion, fromLow, toHigh, selects, selected, byId, filesOf, rowFields, rowBytes, rowLength, Page, pageOf, rowsBytes, isEmpty, inputCheck, enumCheck, pageReply, filesReply, enumReply, startingAt}
 use Rattle.file_enumeration.specs.Follow.{Turn, Ample, inputOf, Given, onward, follow, recordsIn, recordOf, Followed, Sized, Enumerates}
 use Rattle.file_enumeration.proofs.Ordering.{files-rise, files-in, files-out, least-first, start-raised, listed}
 use Rattle.file_enumeration.proofs.Selecting.{selects-narrow, next-fits}

@@ -14,8 +14,7 @@ use Rattle.file_table.specs.Table.{Row, rows, distinct, goodTable, above, risin
 use Rattle.file_table.proofs.Rising.{key, false-true, both-true, first-once, distinct-rest, same-row, rising-rest, rising-first, rising-made, rising-below, above-all, same-rising}
 use Rattle.file_table.proofs.Places.{table-distinct}
 use Rattle.file_enumeration.specs.declared.Query.{Query}
-use Rattle.file_enumeration.specs.Enumerate.{fromLow, toHigh, selects, selected, insert, byId}
-use Rattle.file_enumeration.specs.Steps.{startingAt}
+use Rattle.file_enumeration.specs.Enumerate.{fromLow, toHigh, selects, selected, insert, byId, startingAt}
 use Rattle.file_enumeration.specs.Follow.{Listed}
 
 -- ---- what a query selects

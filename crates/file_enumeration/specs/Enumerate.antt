@@ -27,6 +27,10 @@ use Rattle.file_enumeration.specs.declared.Query.{Query}
 abbrev pub queryIn : List ℕ → Query
 queryIn input = record { start = numberAt input 0 8; low = numberAt input 8 8; high = numberAt input 16 8 }
 
+-- the same from another id on
+abbrev pub startingAt : Query → ℕ → Query
+startingAt q id = record { start = id; low = q .low; high = q .high }
+
 -- from 32 bytes on Min and Max stand at 24; a shorter input asks for version 2
 abbrev pub enumVersions : List ℕ → Option Status
 enumVersions input = versionsIn 32 24 input

@@ -21,8 +21,7 @@ use Rattle.reply_walker.specs.Reply.{positionOf, recordsOf}
 use Rattle.file_usn.specs.FileUsn.{currentFields}
 use Rattle.file_table.specs.Table.{Row, rows, rowName, goodTable, rising}
 use Rattle.file_enumeration.specs.declared.Query.{Query}
-use Rattle.file_enumeration.specs.Enumerate.{selects, filesOf, enumReply}
-use Rattle.file_enumeration.specs.Steps.{startingAt}
+use Rattle.file_enumeration.specs.Enumerate.{selects, filesOf, enumReply, startingAt}
 
 -- ---- the selected files
 

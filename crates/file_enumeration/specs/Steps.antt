@@ -10,11 +10,7 @@ use Rattle.file_table.specs.Table.{Row, rows}
 use Rattle.file_table.specs.Steps.{rowAt, idAt}
 use Rattle.file_enumeration.specs.declared.Query.{Query}
 use Rattle.file_enumeration.specs.declared.Sent.{Sent}
-use Rattle.file_enumeration.specs.Enumerate.{selects, filesOf, rowBytes, rowLength, rowsBytes, Page}
-
--- the same query from another id on
-abbrev pub startingAt : Query → ℕ → Query
-startingAt q id = record { start = id; low = q .low; high = q .high }
+use Rattle.file_enumeration.specs.Enumerate.{startingAt, selects, filesOf, rowBytes, rowLength, rowsBytes, Page}
 
 -- the file at a place, and the files of a query behind its id; past the table's end, none
 abbrev pub filesFrom : Query → List ℕ → ℕ → List Row

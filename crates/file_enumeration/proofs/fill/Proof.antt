@@ -10,9 +10,10 @@ use Rattle.file_table.specs.Table.{goodTable}
 use Rattle.file_table.specs.Steps.{idAt}
 use Rattle.file_table.proofs.Places.{table-whole, table-distinct}
 use Rattle.file_enumeration.specs.declared.Query.{Query}
-use Rattle.file_enumeration.specs.Steps.{startingAt, Leads, Ahead}
+use Rattle.file_enumeration.specs.Enumerate.{startingAt}
+use Rattle.file_enumeration.specs.Steps.{Leads, Ahead}
 use Rattle.file_enumeration.proofs.Finding.{ahead-next}
-use Rattle.file_enumeration.proofs.Filling.{Filled, fill-start, fill-inside, fill-good, fill-id, fill-next-id, fill-room, fill-same, fill-cut, fill-next, fill-end}
+use Rattle.file_enumeration.proofs.Filling.{Filled, Turned, fill-start, fill-inside, fill-good, turned, fill-end}
 use Rattle.file_enumeration.proofs.fill.Statement.{statement}
 use Rattle.file_enumeration.proofs.fill.Tie as tie
 
@@ -49,45 +50,20 @@ give-requires c κs =
     let a = k .before .before .before .args in
     (inside t, fill-good (a .v) (a .pool .now) (a .table .now) (a .out .now) (l .loop .inv .0) (a .q) (l .loop .out) (l .loop .next) (l .loop .at) (l .loop .done) (l .loop .inv .1) (t .loop-test .taken))
 
-same-length : tie.Need-same-length Inv-loop μ-loop
-same-length c =
-    let g = c .before .before .before in
+-- what it comes to
+turn : (g : tie.After-give Inv-loop μ-loop)
+    → let i = g .before .before in
+    let l = i .before .before in
+    let a = l .before .before .before .before .args in
+    Turned (a .v) (a .pool .now) (a .table .now) (a .out .now) (l .loop .inv .0) (a .q) (l .loop .out) (l .loop .next) (l .loop .at) (l .loop .done) (i .get .result) (g .give .result) (g .give .last .0)
+turn g =
     let i = g .before .before in
     let t = i .before in
     let l = t .before in
     let k = l .before in
     let a = k .before .before .before .args in
-    fill-same (a .v) (a .pool .now) (a .table .now) (a .out .now) (l .loop .inv .0) (a .q) (l .loop .out) (l .loop .next) (l .loop .at) (l .loop .done) (l .loop .inv .1) (t .loop-test .taken) (bytes k) (i .get .result) (i .get .ensures .0) (g .give .result) (g .give .last .0) (g .give .ensures)
-
-returns : tie.Need-returns Inv-loop μ-loop
-returns c =
-    let g = c .before .before .before in
-    let i = g .before .before in
-    let t = i .before in
-    let l = t .before in
-    let k = l .before in
-    let a = k .before .before .before .args in
-    fill-cut (a .v) (a .pool .now) (a .table .now) (a .out .now) (l .loop .inv .0) (a .q) (l .loop .out) (l .loop .next) (l .loop .at) (l .loop .done) (l .loop .inv .1) (t .loop-test .taken) (bytes k) (i .get .result) (i .get .ensures .0) (g .give .result) (g .give .last .0) (g .give .ensures) (c .if1 .taken)
-
-add-done : tie.Need-add-done Inv-loop μ-loop
-add-done c =
-    let g = c .before .before .before in
-    let i = g .before .before in
-    let t = i .before in
-    let l = t .before in
-    let k = l .before in
-    let a = k .before .before .before .args in
-    omega (arith, fill-room (a .v) (a .pool .now) (a .table .now) (a .out .now) (l .loop .inv .0) (a .q) (l .loop .out) (l .loop .next) (l .loop .at) (l .loop .done) (l .loop .inv .1) (t .loop-test .taken) (bytes k) (i .get .result) (i .get .ensures .0) (g .give .result) (g .give .last .0) (g .give .ensures))
-
-add-next : tie.Need-add-next Inv-loop μ-loop
-add-next c =
-    let g = c .before .before .before in
-    let i = g .before .before in
-    let t = i .before in
-    let l = t .before in
-    let k = l .before in
-    let a = k .before .before .before .args in
-    omega (arith, fill-next-id (a .v) (a .pool .now) (a .table .now) (a .out .now) (l .loop .inv .0) (a .q) (l .loop .out) (l .loop .next) (l .loop .at) (l .loop .done) (l .loop .inv .1) (t .loop-test .taken) (bytes k) (i .get .result) (i .get .ensures .0))
+    turned (a .v) (a .pool .now) (a .table .now) (a .out .now) (l .loop .inv .0) (a .q) (l .loop .out) (l .loop .next) (l .loop .at) (l .loop .done) (l .loop .inv .1) (t .loop-test .taken) (bytes k) (i .get .result) (i .get .ensures .0) (g .give .result) (g .give .last .0)
+    (g .give .ensures)
 
 -- the search goes on behind the row
 first-file-requires : tie.Need-first-file-requires Inv-loop μ-loop
@@ -96,10 +72,9 @@ first-file-requires c κs =
     let i = g .before .before in
     let t = i .before in
     let l = t .before in
-    let k = l .before in
-    let a = k .before .before .before .args in
-    let s = k .before .before .before in
-    let n : suc (idAt (a .table .now) (l .loop .at)) ≡ i .get .result + 1 = omega (arith, fill-id (a .v) (a .pool .now) (a .table .now) (a .out .now) (l .loop .inv .0) (a .q) (l .loop .out) (l .loop .next) (l .loop .at) (l .loop .done) (l .loop .inv .1) (t .loop-test .taken) (bytes k) (i .get .result) (i .get .ensures .0)) in
+    let s = l .before .before .before .before in
+    let a = s .args in
+    let n : suc (idAt (a .table .now) (l .loop .at)) ≡ i .get .result + 1 = omega (arith, turn g .own) in
     let m = l .loop .inv .1 .leads .2 in
     let w = table-whole (a .pool .now) (a .table .now) (s .pre .0) in (
       w,
@@ -116,24 +91,14 @@ loop-again : tie.Need-loop-again Inv-loop μ-loop
 loop-again c =
     let e = c .before in
     let g = e .before .before .before in
-    let i = g .before .before in
-    let t = i .before in
-    let l = t .before in
-    let k = l .before in
-    let a = k .before .before .before .args in
-    (l .loop .inv .0, fill-next (a .v) (a .pool .now) (a .table .now) (a .out .now) (l .loop .inv .0) (a .q) (l .loop .out) (l .loop .next) (l .loop .at) (l .loop .done) (l .loop .inv .1) (t .loop-test .taken) (bytes k) (i .get .result) (i .get .ensures .0) (g .give .result) (g .give .last .0) (g .give .ensures) (e .if1 .left) (c .first-file .result) (c .first-file .ensures))
+    (g .before .before .before .before .loop .inv .0, turn g .onward (e .if1 .left) (c .first-file .result) (c .first-file .ensures))
 
 loop-less : tie.Need-loop-less Inv-loop μ-loop
 loop-less c =
     let e = c .before in
     let g = e .before .before .before in
-    let i = g .before .before in
-    let t = i .before in
-    let l = t .before in
-    let k = l .before in
-    let a = k .before .before .before .args in
     let z : 0 < g .give .result = omega (arith, e .if1 .left) in
-    omega (arith, z, fill-room (a .v) (a .pool .now) (a .table .now) (a .out .now) (l .loop .inv .0) (a .q) (l .loop .out) (l .loop .next) (l .loop .at) (l .loop .done) (l .loop .inv .1) (t .loop-test .taken) (bytes k) (i .get .result) (i .get .ensures .0) (g .give .result) (g .give .last .0) (g .give .ensures))
+    omega (arith, z, turn g .room)
 
 returns-2 : tie.Need-returns-2 Inv-loop μ-loop
 returns-2 c =
@@ -146,5 +111,6 @@ pub fill-spec : {M : Type 1} → statement M
 fill-spec =
     tie.close
     (tie.spec Inv-loop μ-loop loop-holds (λ c κs. omega (arith, inside c)) (λ c. omega (arith, c .before .before .loop .inv .1 .room, c .before .before .loop .inv .1 .same)) (λ c. omega (arith, c .before .before .loop .inv .1 .room, c .before .before .loop .inv .1 .same))
-    (λ c. omega (arith, c .before .before .loop .inv .1 .room, c .before .before .loop .inv .1 .same)) give-requires same-length returns add-done add-next (λ c. omega (arith, inside (c .before .before .before .before .before .before)))
+    (λ c. omega (arith, c .before .before .loop .inv .1 .room, c .before .before .loop .inv .1 .same)) give-requires (λ c. turn (c .before .before .before) .same) (λ c. turn (c .before .before .before) .cut (c .if1 .taken)) (λ c. omega (arith, turn (c .before .before .before) .room)) (λ c. omega (arith, turn (c .before .before .before) .successor))
+    (λ c. omega (arith, inside (c .before .before .before .before .before .before)))
     first-file-requires loop-less loop-again (λ c. c .before .loop .inv .1 .same) returns-2)

@@ -12,8 +12,8 @@ use Rattle.le.proofs.Tail.{lent, lent-tail}
 use Rattle.file_table.specs.Table.{Row}
 use Rattle.file_table.specs.Steps.{rowAt, idAt}
 use Rattle.file_table.proofs.Places.{table-whole, table-distinct}
-use Rattle.file_enumeration.specs.Enumerate.{filesOf, isEmpty, Page, pageOf}
-use Rattle.file_enumeration.specs.Steps.{startingAt, Sends}
+use Rattle.file_enumeration.specs.Enumerate.{filesOf, isEmpty, Page, pageOf, startingAt}
+use Rattle.file_enumeration.specs.Steps.{Sends}
 use Rattle.file_enumeration.proofs.Replying.{reply-end, reply-full, reply-given, sent-inside}
 use Rattle.file_enumeration.proofs.give_files.Statement.{statement}
 use Rattle.file_enumeration.proofs.give_files.Tie as tie
