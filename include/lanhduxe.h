@@ -449,8 +449,8 @@ uint32_t usn_delete_reparse_point(usn_volume *volume, uint8_t *ring, size_t ring
 /* What an enumeration asks for: files from an id on, with a Usn from low to high. */
 typedef struct usn_enum_input {
     uint64_t start;   /* an id, the last reply's; 0 for all */
-    int64_t low;      /* the lowest Usn */
-    int64_t high;     /* the highest Usn; INT64_MAX for all */
+    uint64_t low;     /* the lowest Usn, 0 for all; 2^63 and above is negative */
+    uint64_t high;    /* the highest Usn, INT64_MAX for all; 2^63 and above is negative, and selects nothing */
     uint16_t lowest;  /* the versions */
     uint16_t highest;
 } usn_enum_input;
@@ -461,8 +461,8 @@ typedef struct usn_enum_input {
 static inline void usn_put_enum_input(uint8_t bytes[USN_ENUM_INPUT_SIZE], usn_enum_input input)
 {
     usn_put_number(bytes, input.start, 8);
-    usn_put_number(bytes + 8, (uint64_t)input.low, 8);
-    usn_put_number(bytes + 16, (uint64_t)input.high, 8);
+    usn_put_number(bytes + 8, input.low, 8);
+    usn_put_number(bytes + 16, input.high, 8);
     usn_put_number(bytes + 24, input.lowest, 2);
     usn_put_number(bytes + 26, input.highest, 2);
     usn_put_number(bytes + 28, 0, 4);
@@ -482,8 +482,8 @@ usn_answer usn_enumerate_rows(usn_volume volume, const uint8_t *table, size_t ta
  * The id in front is that of the first selected file that did not fit, or else that of the last one given plus 1. A caller returns with
  * it as its next start, and with USN_READ_ROOM bytes of output or more, over a table that does not change, comes to every selected file
  * once, in order, and then to END_OF_FILE. The journal's state does not matter, and no Usn is compared with the journal's.
- * The rows may stand in any order. A table by rising id is judged and read in a few passes; any other takes time that grows with the
- * square of its rows.
+ * The rows may stand in any order. Each call judges the whole table: one by rising id is judged and read in a few passes over its rows and
+ * names; any other takes time that grows with the square of its rows.
  * Input: the start id u64, LowUsn i64 and HighUsn i64, both signed; from 32 bytes on also the lowest and highest version, u16 each, and 4
  * bytes that are ignored, else the version is 2.
  * INVALID_DEVICE_REQUEST without support; FILE_CORRUPT_ERROR for a bad row, be it selected or not: a bad name, a negative Usn, the id
@@ -494,7 +494,12 @@ usn_answer usn_enumerate_rows(usn_volume volume, const uint8_t *table, size_t ta
 static inline usn_answer usn_enumerate_files(usn_volume volume, const usn_entry *table, size_t count, const uint8_t *pool, size_t pool_size,
                                              const uint8_t *input, size_t input_size, uint8_t *output, size_t output_size)
 {
-    return usn_enumerate_rows(volume, (const uint8_t *)table, count * sizeof *table, pool, pool_size, input, input_size, output, output_size);
+#ifdef __cplusplus
+    const uint8_t *rows = reinterpret_cast<const uint8_t *>(table);
+#else
+    const uint8_t *rows = (const uint8_t *)table;
+#endif
+    return usn_enumerate_rows(volume, rows, count * sizeof *table, pool, pool_size, input, input_size, output, output_size);
 }
 
 /* ---- Reading a reply ---- */
@@ -509,8 +514,9 @@ usn_walk usn_walk_reply(const uint8_t *reply, size_t size);
 #define USN_LIST_ROOM(size) (64 + 2 * (size))
 
 /*
- * Lists a reply as text: its position, a line for each record, and their number. No NUL ends the text. A bad reply is listed too, with
- * USN_SUCCESS: as `bad at` and the place of the first bad record, and one above USN_LIST_MAX bytes as `bad at 65536`.
+ * Lists a reply as text: the number in front, as a signed one, a line for each record, and how many there are. No NUL ends the text. A bad
+ * reply is listed too, with USN_SUCCESS: as `bad at` and the place of the first bad record, and one above USN_LIST_MAX bytes as
+ * `bad at 65536`.
  * BUFFER_TOO_SMALL for an output below USN_LIST_ROOM(size).
  */
 usn_answer usn_list_reply(const uint8_t *reply, size_t size, uint8_t *output, size_t output_size);

@@ -155,6 +155,7 @@ static void try_statuses(void)
         { USN_BUFFER_OVERFLOW, 0 },
         { USN_INVALID_PARAMETER, 1 },
         { USN_INVALID_DEVICE_REQUEST, 1 },
+        { USN_END_OF_FILE, 1 },
         { USN_BUFFER_TOO_SMALL, 1 },
         { USN_UNKNOWN_REVISION, 1 },
         { USN_DISK_FULL, 1 },
@@ -219,6 +220,80 @@ static void try_points(void)
     TRY(usn_get_reparse_point(volume, file, store, sizeof store, output, sizeof output).status == USN_NOT_A_REPARSE_POINT);
 }
 
+static void try_enum_input(void)
+{
+    static const uint8_t expected[USN_ENUM_INPUT_SIZE + 1] = {
+        0x01, 0x02, 0x03, 0x04, 0x05, 0x06, 0x07, 0x88, 0x09, 0x0A, 0x0B, 0x0C, 0x0D, 0x0E, 0x0F, 0x10,
+        0x1A, 0x12, 0x13, 0x14, 0x15, 0x16, 0x17, 0xF8, 0x19, 0x9A, 0x1B, 0x9C, 0, 0, 0, 0, 0xEE,
+    };
+    uint8_t bytes[USN_ENUM_INPUT_SIZE + 1];
+    usn_enum_input input = { 0x8807060504030201, 0x100F0E0D0C0B0A09, 0xF81716151413121A, 0x9A19, 0x9C1B };
+    memset(bytes, 0xEE, sizeof bytes);
+    usn_put_enum_input(bytes, input);
+    TRY(memcmp(bytes, expected, sizeof bytes) == 0);
+}
+
+/*
+ * A table of rows, and the same as bytes; the room for any file; the last id and the last Usn that a file may have, and the first of each
+ * that none may.
+ */
+static void try_files(void)
+{
+    static const usn_entry rows[3] = {
+        { { { 9 } }, { { 5 } }, 80, 0x20, 4, USN_NAME_MAX },
+        { { { 3 } }, { { 5 } }, USN_POSITION_LIMIT - 1, 0, 0, USN_NAME_MAX + 4 },
+        { { { 7 } }, { { 5 } }, 0, 0, USN_NAME_MAX, 0 },
+    };
+    static uint8_t pool[USN_NAME_MAX + 4], output[2 * USN_READ_ROOM], again[sizeof output];
+    usn_volume volume = { 0, 0, 0, 0, 1, USN_STATE_IDLE, 0, 0, 0, 0 };
+    usn_enum_input all = { 0, 0, INT64_MAX, 2, 3 }, seven = { 4, 0, 0, 3, 3 }, none = { 10, 0, INT64_MAX, 2, 2 };
+    uint8_t input[USN_ENUM_INPUT_SIZE], bytes[sizeof rows];
+    usn_entry bad[3];
+    usn_answer answer;
+    usn_record record;
+    memset(pool, 'a', sizeof pool);
+    memset(output, 0xEE, sizeof output);
+    memcpy(again, output, sizeof output);
+    memcpy(bytes, rows, sizeof rows);
+
+    usn_put_enum_input(input, all);
+    answer = usn_enumerate_files(volume, rows, 3, pool, sizeof pool, input, sizeof input, output, sizeof output);
+    TRY(answer.status == USN_SUCCESS && answer.count == 8 + 80 + 592 + 80);
+    TRY(usn_reply_position(output) == 10);
+    TRY(usn_walk_reply(output, answer.count).position == 10 && usn_walk_reply(output, answer.count).count == 3);
+    record = usn_read_record(output, answer.count, 8);
+    TRY(record.version == 3 && record.usn == USN_POSITION_LIMIT - 1 && record.attributes == 0x80 && record.length == 0);
+    TRY(memcmp(&record.file, &rows[1].id, sizeof record.file) == 0 && memcmp(&record.parent, &rows[1].parent, sizeof record.parent) == 0);
+    TRY(usn_enumerate_rows(volume, bytes, sizeof bytes, pool, sizeof pool, input, sizeof input, again, sizeof again).count == answer.count);
+    TRY(memcmp(output, again, sizeof output) == 0);
+    TRY(usn_enumerate_rows(volume, bytes, sizeof bytes - 1, pool, sizeof pool, input, sizeof input, again, sizeof again).status
+        == USN_FILE_CORRUPT_ERROR);
+
+    usn_put_enum_input(input, seven);
+    TRY(usn_enumerate_files(volume, rows, 3, pool, sizeof pool, input, sizeof input, output, USN_READ_ROOM - 1).status == USN_BUFFER_TOO_SMALL);
+    TRY(usn_enumerate_files(volume, rows, 3, pool, sizeof pool, input, sizeof input, output, USN_READ_ROOM).count == USN_READ_ROOM);
+    TRY(usn_reply_position(output) == 8);
+    usn_put_enum_input(input, none);
+    TRY(usn_enumerate_files(volume, rows, 3, pool, sizeof pool, input, sizeof input, output, sizeof output).status == USN_END_OF_FILE);
+    TRY(usn_enumerate_files(volume, NULL, 0, NULL, 0, input, sizeof input, output, sizeof output).status == USN_END_OF_FILE);
+
+    memcpy(bad, rows, sizeof rows);
+    bad[2].id = usn_id_of(UINT64_MAX - 1);
+    usn_put_enum_input(input, all);
+    TRY(usn_enumerate_files(volume, bad, 3, pool, sizeof pool, input, sizeof input, output, sizeof output).status == USN_SUCCESS);
+    TRY(usn_reply_position(output) == UINT64_MAX);
+    bad[2].id = usn_id_of(UINT64_MAX);
+    TRY(usn_enumerate_files(volume, bad, 3, pool, sizeof pool, input, sizeof input, output, sizeof output).status == USN_FILE_CORRUPT_ERROR);
+    bad[2].id = bad[0].id;
+    TRY(usn_enumerate_files(volume, bad, 3, pool, sizeof pool, input, sizeof input, output, sizeof output).status == USN_FILE_CORRUPT_ERROR);
+    bad[2].id.bytes[15] = 1;
+    TRY(usn_enumerate_files(volume, bad, 3, pool, sizeof pool, input, sizeof input, output, sizeof output).count == 8 + 80 + 80);
+    bad[1].usn = USN_POSITION_LIMIT;
+    TRY(usn_enumerate_files(volume, bad, 3, pool, sizeof pool, input, sizeof input, output, sizeof output).status == USN_FILE_CORRUPT_ERROR);
+    volume.journal = 0;
+    TRY(usn_enumerate_files(volume, rows, 3, pool, sizeof pool, input, sizeof input, output, sizeof output).status == USN_INVALID_DEVICE_REQUEST);
+}
+
 static void try_listing(void)
 {
     static uint8_t reply[USN_LIST_MAX + 1], text[USN_LIST_ROOM(sizeof reply)];
@@ -236,6 +311,8 @@ int main(void)
     try_images();
     try_regions();
     try_points();
+    try_enum_input();
+    try_files();
     try_listing();
     return failed;
 }

@@ -1,4 +1,4 @@
-/* The layouts that C, C++ and the library share, and that of the header's own struct, checked when this file is compiled. */
+/* The layouts that C, C++ and the library share, and those of the header's own structs, checked when this file is compiled. */
 #include <assert.h>
 
 #include "lanhduxe.h"
@@ -45,6 +45,14 @@ AT(usn_link, place, 0);
 AT(usn_link, length, 4);
 AT(usn_link, short_length, 8);
 
+SIZE(usn_entry, 56);
+AT(usn_entry, id, 0);
+AT(usn_entry, parent, 16);
+AT(usn_entry, usn, 32);
+AT(usn_entry, attributes, 40);
+AT(usn_entry, name_length, 44);
+AT(usn_entry, name_place, 48);
+
 SIZE(usn_answer, 16);
 AT(usn_answer, status, 0);
 AT(usn_answer, count, 8);
@@ -77,3 +85,10 @@ AT(usn_read_input, only_on_close, 12);
 AT(usn_read_input, id, 16);
 AT(usn_read_input, lowest, 24);
 AT(usn_read_input, highest, 26);
+
+SIZE(usn_enum_input, 32);
+AT(usn_enum_input, start, 0);
+AT(usn_enum_input, low, 8);
+AT(usn_enum_input, high, 16);
+AT(usn_enum_input, lowest, 24);
+AT(usn_enum_input, highest, 26);

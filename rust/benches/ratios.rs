@@ -2,7 +2,7 @@
 //!
 //! Both sides are built for release and called through the same kind of closure. A case is measured in rounds; each round times
 //! the library and then the model over the same number of calls, and the table shows the median round of each side and the
-//! median of the rounds' ratios. Rings, inputs and outputs are prepared before a round; no buffer is cleared between calls.
+//! median of the rounds' ratios. Rings, tables, inputs and outputs are prepared before a round; no buffer is cleared between calls.
 
 use std::hint::black_box;
 use std::time::{Duration, Instant};
@@ -37,7 +37,7 @@ fn measure(mut library: impl FnMut(), mut model: impl FnMut()) -> Timed {
     let once = nanoseconds(16, &mut model)
         .max(nanoseconds(16, &mut library))
         .max(1.0);
-    let calls = (ROUND.as_nanos() as f64 / once).clamp(16.0, 4e6) as u32;
+    let calls = (ROUND.as_nanos() as f64 / once).clamp(1.0, 4e6) as u32;
     let (mut a, mut b, mut ratios) = (Vec::new(), Vec::new(), Vec::new());
     for round in 0..ROUNDS {
         // either side goes first in turn
@@ -67,7 +67,12 @@ fn row(name: &str, t: &Timed) {
 }
 
 fn heading(first: &str) {
-    println!("\n| {first} | library, ns | model, ns | ratio |\n|---|---:|---:|---:|");
+    heading_beside(first, "model");
+}
+
+/// The heading of a table with something else than the model beside the library.
+fn heading_beside(first: &str, other: &str) {
+    println!("\n| {first} | library, ns | {other}, ns | ratio |\n|---|---:|---:|---:|");
 }
 
 /// The same journal on both sides.
@@ -603,6 +608,290 @@ fn without_journal() -> Pair {
     p
 }
 
+/// A table of files, the same for both sides, and the pool of their names.
+struct Files {
+    library: Vec<lanhduxe::Entry>,
+    model: Vec<model::Entry>,
+    pool: Vec<u8>,
+}
+
+/// So many files by rising id, with names of 20 to 30 bytes.
+fn rising(count: usize) -> Files {
+    let mut f = Files {
+        library: Vec::new(),
+        model: Vec::new(),
+        pool: Vec::new(),
+    };
+    for number in 0..count {
+        let name = letters(20 + 2 * (number % 6));
+        let (id, parent) = (3 * number as u128, NARROW.1);
+        let (name_length, name_place) = (name.len() as u32, f.pool.len() as u64);
+        f.pool.extend(name);
+        f.library.push(lanhduxe::Entry {
+            id: id.into(),
+            parent: parent.into(),
+            usn: 1024,
+            attributes: 32,
+            name_length,
+            name_place,
+        });
+        f.model.push(model::Entry {
+            id,
+            parent,
+            usn: 1024,
+            attributes: 32,
+            name_length,
+            name_place,
+        });
+    }
+    f
+}
+
+/// The same files in no order.
+fn shuffled(count: usize) -> Files {
+    let mut f = rising(count);
+    let mut state = 1u64;
+    for place in 1..count {
+        state = state
+            .wrapping_mul(6364136223846793005)
+            .wrapping_add(1442695040888963407);
+        let other = (state >> 33) as usize % (place + 1);
+        f.library.swap(place, other);
+        f.model.swap(place, other);
+    }
+    f
+}
+
+/// The input of an enumeration from an id on, of any Usn, in version 3.
+fn from_id(start: u64) -> [u8; 32] {
+    let mut s = [0; 32];
+    s[..8].copy_from_slice(&start.to_le_bytes());
+    s[16..24].copy_from_slice(&i64::MAX.to_le_bytes());
+    (s[24], s[26]) = (2, 3);
+    s
+}
+
+/// Bytes of an enumeration's output.
+const PAGE: usize = 65_536;
+
+/// The two volumes that support an enumeration.
+fn volumes() -> (lanhduxe::Volume, model::Volume) {
+    let library = lanhduxe::Volume {
+        journal: 1,
+        ..Default::default()
+    };
+    let model = model::Volume {
+        usn: 1,
+        journal: 1,
+        ..Default::default()
+    };
+    (library, model)
+}
+
+/// A status and a count of an enumeration with this input into this output.
+trait Enumerate: FnMut(&[u8; 32], &mut [u8]) -> (u32, usize) {}
+
+impl<F: FnMut(&[u8; 32], &mut [u8]) -> (u32, usize)> Enumerate for F {}
+
+fn by_library<'a>(f: &'a Files) -> impl Enumerate + 'a {
+    let (v, _) = volumes();
+    move |input, output| {
+        let answer = v.enumerate_files(
+            black_box(&f.library),
+            black_box(&f.pool),
+            black_box(input),
+            black_box(output),
+        );
+        (answer.status.number(), answer.count)
+    }
+}
+
+fn by_model<'a>(f: &'a Files) -> impl Enumerate + 'a {
+    let (_, v) = volumes();
+    move |input, output| {
+        model::enumerate(
+            &v,
+            black_box(&f.model),
+            black_box(&f.pool),
+            black_box(input),
+            black_box(output),
+        )
+    }
+}
+
+/// By plain Rust that has no memory of its own either.
+fn by_searching<'a>(f: &'a Files) -> impl Enumerate + 'a {
+    let (_, v) = volumes();
+    move |input, output| {
+        search(
+            &v,
+            black_box(&f.model),
+            black_box(&f.pool),
+            black_box(input),
+            black_box(output),
+        )
+    }
+}
+
+/// An enumeration that allocates nothing and wants no order: every two ids are compared, and for each record all files are searched for
+/// the one with the next id. A record is written as that of a file read.
+fn search(
+    v: &model::Volume,
+    table: &[model::Entry],
+    pool: &[u8],
+    input: &[u8; 32],
+    output: &mut [u8],
+) -> (u32, usize) {
+    let narrow = u128::from(u64::MAX);
+    let good = |place: usize| {
+        let file = &table[place];
+        file.usn >> 63 == 0
+            && file.id != narrow
+            && has_good_name(file, pool)
+            && table[..place].iter().all(|other| other.id != file.id)
+    };
+    if v.journal == 0 {
+        return (model::status::INVALID_DEVICE_REQUEST, 0);
+    }
+    if !(0..table.len()).all(good) {
+        return (model::status::FILE_CORRUPT_ERROR, 0);
+    }
+    let number = |at: usize| u64::from_le_bytes(input[at..at + 8].try_into().unwrap());
+    let (low, high) = (number(8) as i64, number(16) as i64);
+    let (mut next, mut count) = (u128::from(number(0)), 8);
+    loop {
+        let selected = table.iter().filter(|file| {
+            (next..=narrow).contains(&file.id)
+                && file.parent <= narrow
+                && (low..=high).contains(&(file.usn as i64))
+        });
+        let Some(file) = selected.min_by_key(|file| file.id) else {
+            break;
+        };
+        let record = model::File {
+            id: file.id,
+            usn: file.usn,
+            attributes: file.attributes,
+            ..Default::default()
+        };
+        let link = model::Link {
+            place: file.name_place as u32,
+            length: file.name_length,
+            short: 0,
+        };
+        let rest = &mut output[count..];
+        let (status, written) =
+            model::read_file(v, &record, file.parent, pool, &[link], &input[24..], rest);
+        next = file.id;
+        match status {
+            model::status::SUCCESS => (next, count) = (next + 1, count + written),
+            _ if count == 8 => return (status, 0),
+            _ => break,
+        }
+    }
+    if count == 8 {
+        return (model::status::END_OF_FILE, 0);
+    }
+    output[..8].copy_from_slice(&(next as u64).to_le_bytes());
+    (model::status::SUCCESS, count)
+}
+
+/// Whether a file's name lies in the pool and is one that a file may have.
+fn has_good_name(file: &model::Entry, pool: &[u8]) -> bool {
+    let (place, length) = (file.name_place as usize, file.name_length as usize);
+    let name = pool.get(place..).and_then(|rest| rest.get(..length));
+    let is_excluded =
+        |unit: &[u8]| [0, 0x2F, 0x5C].contains(&u16::from_le_bytes([unit[0], unit[1]]));
+    length <= 510
+        && length.is_multiple_of(2)
+        && name.is_some_and(|name| !name.chunks_exact(2).any(is_excluded))
+}
+
+/// One call from the first file on.
+fn first_page(mut library: impl Enumerate, mut other: impl Enumerate) -> Timed {
+    let (mut a, mut b) = (vec![0; PAGE], vec![0; PAGE]);
+    let input = from_id(0);
+    let x = library(&input, &mut a);
+    let y = other(&input, &mut b);
+    assert!(x == y && a == b && y.0 == model::status::SUCCESS && y.1 > 8);
+    measure(
+        || {
+            black_box(library(&input, &mut a));
+        },
+        || {
+            black_box(other(&input, &mut b));
+        },
+    )
+}
+
+/// Goes by pages to the end, and gives the bytes of all.
+fn to_the_end(call: &mut impl Enumerate, output: &mut [u8], mut page: impl FnMut(&[u8])) -> usize {
+    let (mut input, mut bytes) = (from_id(0), 0);
+    loop {
+        let (status, count) = call(&input, output);
+        if status == model::status::END_OF_FILE {
+            return bytes;
+        }
+        assert_eq!(status, model::status::SUCCESS);
+        page(&output[..count]);
+        input[..8].copy_from_slice(&output[..8]);
+        bytes += count;
+    }
+}
+
+/// All files by pages.
+fn all_pages(mut library: impl Enumerate, mut other: impl Enumerate) -> Timed {
+    let (mut a, mut b) = (vec![0; PAGE], vec![0; PAGE]);
+    let (mut x, mut y) = (Vec::new(), Vec::new());
+    to_the_end(&mut library, &mut a, |page| x.extend_from_slice(page));
+    to_the_end(&mut other, &mut b, |page| y.extend_from_slice(page));
+    assert!(x == y && !x.is_empty());
+    measure(
+        || {
+            black_box(to_the_end(&mut library, &mut a, |_| {}));
+        },
+        || {
+            black_box(to_the_end(&mut other, &mut b, |_| {}));
+        },
+    )
+}
+
+/// Enumerations of tables that grow.
+fn tables_of_files() {
+    let counts = [1_000, 10_000, 40_000];
+    heading("enumeration of files by rising id, one call into 64 KiB, files");
+    for count in counts {
+        let f = rising(count);
+        row(
+            &count.to_string(),
+            &first_page(by_library(&f), by_model(&f)),
+        );
+    }
+    heading("enumeration of files by rising id, all pages of 64 KiB, files");
+    for count in counts {
+        let f = rising(count);
+        row(&count.to_string(), &all_pages(by_library(&f), by_model(&f)));
+    }
+    let counts = [500, 1_000, 2_000];
+    let in_no_order = "enumeration of files in no order, one call into 64 KiB, files";
+    heading_beside(in_no_order, "plain Rust that allocates nothing");
+    for count in counts {
+        let f = shuffled(count);
+        row(
+            &count.to_string(),
+            &first_page(by_library(&f), by_searching(&f)),
+        );
+    }
+    heading_beside(in_no_order, "model, which sorts");
+    for count in counts {
+        let f = shuffled(count);
+        row(
+            &count.to_string(),
+            &first_page(by_library(&f), by_model(&f)),
+        );
+    }
+}
+
 fn main() {
     heading("call");
     let post = posts(65_536, 2);
@@ -703,6 +992,7 @@ fn main() {
     for c in capacities {
         row(&c.to_string(), &loads(&full(c, 2), 1));
     }
+    tables_of_files();
     println!(
         "\n30 posts a second on a full ring of 64 KiB take {:.4} % of a processor's time.",
         30.0 * post.library / 1e7

@@ -1,4 +1,4 @@
-//! Safe calls for six file controls and a change journal over lent memory.
+//! Safe calls for seven file controls and a change journal over lent memory.
 //!
 //! The library behind this crate allocates nothing and keeps nothing. The
 //! caller owns a [`Volume`] record, the journal's ring and every other buffer,
@@ -97,7 +97,7 @@
 #![warn(missing_docs)]
 
 use core::fmt;
-use core::mem::{align_of, offset_of, size_of};
+use core::mem::{align_of, offset_of, size_of, size_of_val};
 use core::ops::Range;
 
 /// The library's C interface.
@@ -238,6 +238,17 @@ mod c {
             input: *const u8,
             input_size: usize,
         ) -> u32;
+        pub fn usn_enumerate_rows(
+            volume: Volume,
+            table: *const u8,
+            table_size: usize,
+            pool: *const u8,
+            pool_size: usize,
+            input: *const u8,
+            input_size: usize,
+            output: *mut u8,
+            output_size: usize,
+        ) -> Answer;
         pub fn usn_read_record(bytes: *const u8, size: usize, at: usize) -> Record;
         pub fn usn_walk_reply(reply: *const u8, size: usize) -> Walk;
         pub fn usn_list_reply(
@@ -252,6 +263,7 @@ mod c {
 /// The layouts that the C interface fixes, checked when this crate is compiled.
 const _: () = {
     assert!(size_of::<usize>() == 8);
+    assert!(cfg!(target_endian = "little"));
 
     assert!(size_of::<Volume>() == 56);
     assert!(offset_of!(Volume, usn) == 0);
@@ -293,6 +305,14 @@ const _: () = {
     assert!(offset_of!(Link, length) == 4);
     assert!(offset_of!(Link, short) == 8);
 
+    assert!(size_of::<Entry>() == 56);
+    assert!(offset_of!(Entry, id) == 0);
+    assert!(offset_of!(Entry, parent) == 16);
+    assert!(offset_of!(Entry, usn) == 32);
+    assert!(offset_of!(Entry, attributes) == 40);
+    assert!(offset_of!(Entry, name_length) == 44);
+    assert!(offset_of!(Entry, name_place) == 48);
+
     assert!(size_of::<c::Answer>() == 16);
     assert!(offset_of!(c::Answer, status) == 0);
     assert!(offset_of!(c::Answer, count) == 8);
@@ -332,6 +352,8 @@ pub enum Status {
     InvalidParameter = 0xC000_000D,
     /// `STATUS_INVALID_DEVICE_REQUEST`: the volume does not support the control.
     InvalidDeviceRequest = 0xC000_0010,
+    /// `STATUS_END_OF_FILE`: no file of the table is selected.
+    EndOfFile = 0xC000_0011,
     /// `STATUS_BUFFER_TOO_SMALL`: an input or output buffer is too short.
     BufferTooSmall = 0xC000_0023,
     /// `STATUS_UNKNOWN_REVISION`: a form that is not known, or not the one that
@@ -342,8 +364,8 @@ pub enum Status {
     DiskFull = 0xC000_007F,
     /// `STATUS_NOT_SUPPORTED`: a wide id, which version 2 cannot show.
     NotSupported = 0xC000_00BB,
-    /// `STATUS_FILE_CORRUPT_ERROR`: a bad file record, volume record, ring or
-    /// image.
+    /// `STATUS_FILE_CORRUPT_ERROR`: a bad file record, table of files, volume
+    /// record, ring or image.
     FileCorruptError = 0xC000_0102,
     /// `STATUS_NOT_A_REPARSE_POINT`: the file has no reparse tag.
     NotAReparsePoint = 0xC000_0275,
@@ -369,11 +391,12 @@ pub enum Status {
 
 impl Status {
     /// All statuses, by rising number.
-    pub const ALL: [Status; 18] = [
+    pub const ALL: [Status; 19] = [
         Status::Success,
         Status::BufferOverflow,
         Status::InvalidParameter,
         Status::InvalidDeviceRequest,
+        Status::EndOfFile,
         Status::BufferTooSmall,
         Status::UnknownRevision,
         Status::DiskFull,
@@ -421,6 +444,7 @@ impl fmt::Display for Status {
             Status::BufferOverflow => "STATUS_BUFFER_OVERFLOW",
             Status::InvalidParameter => "STATUS_INVALID_PARAMETER",
             Status::InvalidDeviceRequest => "STATUS_INVALID_DEVICE_REQUEST",
+            Status::EndOfFile => "STATUS_END_OF_FILE",
             Status::BufferTooSmall => "STATUS_BUFFER_TOO_SMALL",
             Status::UnknownRevision => "STATUS_UNKNOWN_REVISION",
             Status::DiskFull => "STATUS_DISK_FULL",
@@ -453,7 +477,7 @@ pub struct Volume {
     pub reparse: u32,
     /// Whether the volume has reparse points at all.
     pub points: u32,
-    /// Whether the volume supports a journal.
+    /// Whether the volume supports a journal, and an enumeration of its files.
     pub journal: u32,
     /// The journal's state: 1 active, 2 being deleted, any other number idle.
     pub state: u32,
@@ -576,6 +600,25 @@ pub struct Link {
     pub length: u32,
     /// The short name's length; only 0 or not 0 matters.
     pub short: u32,
+}
+
+/// One file of a table: a row.
+#[derive(Clone, Copy, Debug, Default, PartialEq, Eq)]
+#[repr(C)]
+pub struct Entry {
+    /// The file's id, which no other row of the table has; not 2^64 - 1.
+    pub id: FileId,
+    /// The id of the folder that holds the name.
+    pub parent: FileId,
+    /// The Usn of the file's last change; below 2^63.
+    pub usn: u64,
+    /// The attributes. 0 is written as 0x80.
+    pub attributes: u32,
+    /// The name's length in bytes: even, 0 to 510. No code unit of the name is
+    /// 0, 0x2F or 0x5C.
+    pub name_length: u32,
+    /// Where the name begins in the name pool.
+    pub name_place: u64,
 }
 
 /// A status, and the number of output bytes written.
@@ -1007,6 +1050,115 @@ impl Volume {
             )
         })
     }
+
+    /// Enumerates the files of a table by rising id, as USN records: a fresh list
+    /// for a reader that has missed changes ([`Status::JournalEntryDeleted`]).
+    ///
+    /// Lent are the table, the name pool and the input, which stay as they are,
+    /// and the output. The rows may stand in any order; a table by rising id is
+    /// read in a few passes, any other takes time that grows with the square of
+    /// its rows. The input has the start id `u64`, LowUsn and HighUsn `i64` and,
+    /// from 32 bytes on, the lowest and highest version `u16`; below that the
+    /// version is 2.
+    ///
+    /// Selected is a file with an id that is the start or above and a Usn from
+    /// LowUsn to HighUsn, both ends in, unless its id or its parent's is wide.
+    /// The reply is an id `u64` and behind it the records of the selected files,
+    /// each as [`Volume::read_file`] gives one, up to the first that does not
+    /// fit. The id is that of this first one, else that of the last file given
+    /// plus 1. A caller returns with it as its next start, and with 600 bytes of
+    /// output or more, over a table that does not change, comes to every selected
+    /// file once, and then to [`Status::EndOfFile`]. The journal's state does not
+    /// matter.
+    ///
+    /// Refusals, in order: [`Status::InvalidDeviceRequest`] without a journal on
+    /// the volume; [`Status::FileCorruptError`] for a bad row, selected or not: a
+    /// bad name, a negative Usn, the id 2^64 - 1 or an id that stands twice;
+    /// [`Status::InvalidParameter`] below 24 bytes of input, then for the
+    /// versions; [`Status::BufferTooSmall`] below 8 bytes of output;
+    /// [`Status::EndOfFile`] if no file is selected; [`Status::BufferTooSmall`]
+    /// if the record of the first selected file does not fit.
+    ///
+    /// ```
+    /// use lanhduxe::{read_record, walk_reply, Entry, FileId, Status, Volume};
+    ///
+    /// let volume = Volume { journal: 1, ..Volume::default() };
+    /// let pool = b"t\0a\0b\0l\0e\0c\0o\0d\0e\0";
+    /// let file = |id, usn, name_place, name_length| Entry {
+    ///     id: FileId::new(id),
+    ///     parent: FileId::new(5),
+    ///     usn,
+    ///     name_length,
+    ///     name_place,
+    ///     ..Entry::default()
+    /// };
+    /// let table = [file(41, 176, 0, 10), file(42, 264, 10, 8)];
+    ///
+    /// let mut input = [0; 32]; // from the id 0 and the Usn 0 on
+    /// input[16..24].copy_from_slice(&i64::MAX.to_le_bytes()); // HighUsn
+    /// input[24] = 2; // lowest version
+    /// input[26] = 3; // highest version
+    /// let mut output = [0; 600];
+    /// let answer = volume.enumerate_files(&table, pool, &input, &mut output);
+    /// assert_eq!((answer.status, answer.count), (Status::Success, 8 + 88 + 88));
+    ///
+    /// let reply = &output[..answer.count];
+    /// let walk = walk_reply(reply).expect("a whole reply");
+    /// assert_eq!((walk.position, walk.count), (43, 2));
+    /// let record = read_record(reply, 8).expect("a record");
+    /// assert_eq!((record.file, record.usn), (FileId::new(41), 176));
+    /// assert_eq!(reply[record.name], pool[..10]);
+    ///
+    /// // From there on there is no other file.
+    /// input[..8].copy_from_slice(&walk.position.to_le_bytes());
+    /// let answer = volume.enumerate_files(&table, pool, &input, &mut output);
+    /// assert_eq!((answer.status, answer.count), (Status::EndOfFile, 0));
+    /// ```
+    #[inline]
+    pub fn enumerate_files(
+        &self,
+        table: &[Entry],
+        pool: &[u8],
+        input: &[u8],
+        output: &mut [u8],
+    ) -> Answer {
+        // SAFETY: pointer and length come from one live borrow; a row is 56 bytes
+        // of fields, with no padding between them.
+        let rows =
+            unsafe { core::slice::from_raw_parts(table.as_ptr().cast(), size_of_val(table)) };
+        self.enumerate_rows(rows, pool, input, output)
+    }
+
+    /// Enumerates the files of a table as [`Volume::enumerate_files`] does, with
+    /// the table as bytes: rows of 56, each as an [`Entry`] lies in memory, with
+    /// little-endian numbers.
+    ///
+    /// A table of any other number of bytes than whole rows have is
+    /// [`Status::FileCorruptError`], as a bad row is.
+    #[inline]
+    pub fn enumerate_rows(
+        &self,
+        table: &[u8],
+        pool: &[u8],
+        input: &[u8],
+        output: &mut [u8],
+    ) -> Answer {
+        // SAFETY: as in `read_journal`.
+        let answer = unsafe {
+            c::usn_enumerate_rows(
+                *self,
+                table.as_ptr(),
+                table.len(),
+                pool.as_ptr(),
+                pool.len(),
+                input.as_ptr(),
+                input.len(),
+                output.as_mut_ptr(),
+                output.len(),
+            )
+        };
+        Answer::of(answer, output.len())
+    }
 }
 
 /// Moves an image from one form to the other: from form 1 to form 2, or from 2 to
@@ -1105,16 +1257,17 @@ pub fn read_record(bytes: &[u8], at: usize) -> Option<Record> {
     }
 }
 
-/// What a journal's reply holds.
+/// What a reply of [`Volume::read_journal`] or [`Volume::enumerate_files`] holds.
 #[derive(Clone, Copy, Debug, PartialEq, Eq)]
 pub struct Walk {
-    /// The position to go on with.
+    /// The position, or the id, to go on with.
     pub position: u64,
     /// The number of records.
     pub count: usize,
 }
 
-/// Walks a journal's whole reply: 8 position bytes, then records to the end.
+/// Walks a whole reply of [`Volume::read_journal`] or [`Volume::enumerate_files`]: 8
+/// position bytes, then records to the end.
 ///
 /// The reply is lent and stays as it is. An error stands for
 /// [`Status::InvalidParameter`] and holds the bad record's first byte, or 0 for

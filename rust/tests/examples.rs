@@ -4,7 +4,7 @@ mod common;
 
 use common::{expected, lay_out, region_input};
 use lanhduxe::{list_reply, move_image, read_record, walk_reply};
-use lanhduxe::{Answer, Change, FileId, FileRecord, Link, Status, Volume};
+use lanhduxe::{Answer, Change, Entry, FileId, FileRecord, Link, Status, Volume};
 
 /// A volume that supports everything, with an idle journal.
 fn volume(capacity: u64) -> Volume {
@@ -50,6 +50,7 @@ fn the_statuses_have_their_numbers_and_names() {
         (0x8000_0005, "STATUS_BUFFER_OVERFLOW"),
         (0xC000_000D, "STATUS_INVALID_PARAMETER"),
         (0xC000_0010, "STATUS_INVALID_DEVICE_REQUEST"),
+        (0xC000_0011, "STATUS_END_OF_FILE"),
         (0xC000_0023, "STATUS_BUFFER_TOO_SMALL"),
         (0xC000_0058, "STATUS_UNKNOWN_REVISION"),
         (0xC000_007F, "STATUS_DISK_FULL"),
@@ -92,6 +93,7 @@ fn the_random_tests_see_every_status() {
         &expected::REPARSE,
         &expected::SET,
         &expected::DELETE,
+        &expected::TABLE,
     ];
     for status in Status::ALL {
         assert!(tests.iter().any(|seen| seen.contains(&status)), "{status}");
@@ -586,6 +588,83 @@ fn a_journal_is_saved_and_loaded_in(form: u32, image: &[u8]) {
     assert_eq!(loaded, expected);
     assert_eq!(other[..80], lay_out(3, &change, 4176, b"a\0"));
     assert_eq!(other[80..], [0xEE; 4016]);
+}
+
+/// The reply of three files in version 2: 3, without a name; 7; and 9, with the
+/// attributes 0x20 and a name of three units. Behind the last one, 10 is next.
+#[rustfmt::skip]
+const FILES: [u8; 208] = [
+    10, 0, 0, 0, 0, 0, 0, 0,
+    64, 0, 0, 0, 2, 0, 0, 0, 3, 0, 0, 0, 0, 0, 0, 0,
+    5, 0, 0, 0, 0, 0, 0, 0, 0, 0, 0, 0, 0, 0, 0, 0,
+    0, 0, 0, 0, 0, 0, 0, 0, 0, 0, 0, 0, 0, 0, 0, 0,
+    0, 0, 0, 0, 0x80, 0, 0, 0, 0, 0, 60, 0, 0, 0, 0, 0,
+    64, 0, 0, 0, 2, 0, 0, 0, 7, 0, 0, 0, 0, 0, 0, 0,
+    5, 0, 0, 0, 0, 0, 0, 0, 0x50, 0x10, 0, 0, 0, 0, 0, 0,
+    0, 0, 0, 0, 0, 0, 0, 0, 0, 0, 0, 0, 0, 0, 0, 0,
+    0, 0, 0, 0, 0x80, 0, 0, 0, 2, 0, 60, 0, 0x61, 0, 0, 0,
+    72, 0, 0, 0, 2, 0, 0, 0, 9, 0, 0, 0, 0, 0, 0, 0,
+    7, 0, 0, 0, 0, 0, 0, 0, 0xFF, 0xFF, 0xFF, 0xFF, 0xFF, 0xFF, 0xFF, 0x7F,
+    0, 0, 0, 0, 0, 0, 0, 0, 0, 0, 0, 0, 0, 0, 0, 0,
+    0, 0, 0, 0, 0x20, 0, 0, 0, 6, 0, 60, 0, 0x62, 0, 0x63, 0,
+    0x64, 0, 0, 0, 0, 0, 0, 0,
+];
+
+/// A row of this table: 9 in folder 7, with the Usn 2^63 - 1, the attributes 0x20 and
+/// six bytes of name from place 2 on.
+#[rustfmt::skip]
+const ROW: [u8; 56] = [
+    9, 0, 0, 0, 0, 0, 0, 0, 0, 0, 0, 0, 0, 0, 0, 0,
+    7, 0, 0, 0, 0, 0, 0, 0, 0, 0, 0, 0, 0, 0, 0, 0,
+    0xFF, 0xFF, 0xFF, 0xFF, 0xFF, 0xFF, 0xFF, 0x7F, 0x20, 0, 0, 0, 6, 0, 0, 0,
+    2, 0, 0, 0, 0, 0, 0, 0,
+];
+
+#[test]
+fn files_are_enumerated() {
+    let volume = volume(1024);
+    let pool = b"a\0b\0c\0d\0";
+    let entry = |id, usn, name_place, name_length| Entry {
+        id: FileId::new(id),
+        parent: PARENT,
+        usn,
+        attributes: 0,
+        name_length,
+        name_place,
+    };
+    let nine = Entry {
+        parent: FileId::new(7),
+        attributes: 0x20,
+        ..entry(9, (1 << 63) - 1, 2, 6)
+    };
+    let table = [nine, entry(3, 0, 8, 0), entry(7, 0x1050, 0, 2)];
+    let mut input = [0; 24]; // from the id 0 and the Usn 0 on
+    input[16..].copy_from_slice(&i64::MAX.to_le_bytes());
+
+    let mut output = [0xEE; 216];
+    let answer = volume.enumerate_files(&table, pool, &input, &mut output);
+    assert_eq!(answer, success(208));
+    assert_eq!(output, [&FILES[..], &[0xEE; 8]].concat()[..]);
+
+    // With a byte less the last file has no room, and is next.
+    let mut output = [0xEE; 216];
+    let answer = volume.enumerate_files(&table, pool, &input, &mut output[..207]);
+    assert_eq!((answer, word(&output, 0)), (success(136), 9));
+    assert_eq!(output[8..136], FILES[8..136]);
+    assert_eq!(output[136..], [0xEE; 80]);
+    let short = volume.enumerate_files(&table, pool, &input, &mut output[..71]);
+    assert_eq!(short, refused(Status::BufferTooSmall));
+
+    // From the id 8 on, with the table as bytes.
+    input[0] = 8;
+    let answer = volume.enumerate_rows(&ROW, pool, &input, &mut output);
+    assert_eq!((answer, word(&output, 0)), (success(80), 10));
+    assert_eq!(output[8..80], FILES[136..]);
+    let cut = volume.enumerate_rows(&ROW[..55], pool, &input, &mut output);
+    assert_eq!(cut, refused(Status::FileCorruptError));
+    input[0] = 10;
+    let end = volume.enumerate_rows(&ROW, pool, &input, &mut output);
+    assert_eq!(end, refused(Status::EndOfFile));
 }
 
 #[test]

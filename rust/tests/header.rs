@@ -10,10 +10,10 @@ const WRAPPER: &str = "rust/src/lib.rs";
 const LIBRARY: &str = "crates/lanhduxe/src/lib.rt";
 
 /// `LANHDUXE_VERSION`, and the number that `fingerprint` makes of the structs and calls of that version.
-const VERSION: (&str, u64) = ("8", 0x9317_07E4_9ACC_3BBC);
+const VERSION: (&str, u64) = ("9", 0xA6A3_DDBF_99CB_69EB);
 
 /// The calls of the interface.
-const CALLS: usize = 16;
+const CALLS: usize = 17;
 
 /// A struct that is shared: where the library has it, and its name in the library, in the wrapper and in the header.
 struct Shared {
@@ -68,8 +68,14 @@ const ID: &str = "usn_id";
 const ID_ARRAY: (&str, &str) = ("crates/file_ids/src/lib.rt", "pub type FileId = [u8; 16];");
 const ID_STRUCT: (&str, &str) = ("crates/call_cores/src/lib.rt", "Id");
 
+/// The row of a table, in the wrapper and in the header. The library reads its bytes.
+const ROW: (&str, &str) = ("Entry", "usn_entry");
+
 /// The structs that only the header has, for its own functions.
-const HEADERS_OWN: [&str; 1] = ["usn_read_input"];
+const HEADERS_OWN: [&str; 2] = ["usn_read_input", "usn_enum_input"];
+
+/// A function of the header's own over rows, and the call over bytes that it makes.
+const OVER_ROWS: (&str, &str) = ("usn_enumerate_files", "usn_enumerate_rows");
 
 /// What the library calls otherwise than the header. A slice's length is called `_size` behind its name here.
 const OTHER_NAMES: [(&str, &str); 8] = [
@@ -274,7 +280,7 @@ fn assert_same(library: &[Named], header: &[Named], what: &str) {
 /// The header's structs.
 fn header_structs() -> impl Iterator<Item = &'static str> {
     let shared = STRUCTS.iter().map(|shared| shared.header);
-    shared.chain([ID]).chain(HEADERS_OWN)
+    shared.chain([ID, ROW.1]).chain(HEADERS_OWN)
 }
 
 /// The names of fields or parameters.
@@ -356,6 +362,43 @@ fn the_three_have_the_same_calls() {
 }
 
 #[test]
+fn header_and_wrapper_have_the_same_row() {
+    let (wrapper, header) = ROW;
+    let row = c_fields(&source(HEADER), header);
+    assert!(row.len() > 1, "{header} has no fields");
+    assert_eq!(fields(&source(WRAPPER), wrapper), row);
+}
+
+/// The function over rows takes what the call over bytes does, but for the table, and hands
+/// it on.
+#[test]
+fn the_function_over_rows_makes_the_call() {
+    let header = source(HEADER);
+    let (function, call) = OVER_ROWS;
+    let head = format!("static inline usn_answer {function}(");
+    let list = between(&header, &head, ")\n{");
+    let parameters: Vec<Named> = parts(list).map(c_named).collect();
+    let (over_bytes, result) = &c_calls(&header)[call];
+    assert_eq!(*result, "usn_answer");
+    let mut over_rows = over_bytes.clone();
+    over_rows[1] = ("table".to_string(), format!("const {} *", ROW.1));
+    over_rows[2] = ("count".to_string(), "size_t".to_string());
+    assert_eq!(parameters, over_rows);
+
+    let body = between(&header, &format!("{list})\n{{\n"), "\n}");
+    let body = between(body, "#endif\n", ";");
+    let handed_on: Vec<&str> = names(over_bytes)
+        .into_iter()
+        .map(|name| match &name[..] {
+            "table" => "rows",
+            "table_size" => "count * sizeof *table",
+            other => other,
+        })
+        .collect();
+    assert_eq!(body, format!("return {call}({})", handed_on.join(", ")));
+}
+
+#[test]
 fn the_version_changes_with_structs_and_calls() {
     let header = source(HEADER);
     let version = between(&header, "#define LANHDUXE_VERSION ", "\n");
@@ -370,7 +413,11 @@ fn the_version_changes_with_structs_and_calls() {
 fn the_example_has_every_call() {
     let example = source("examples/c/journal.c");
     for call in c_calls(&source(HEADER)).keys() {
-        assert!(example.contains(&format!("{call}(")), "{call}");
+        let called = match call == OVER_ROWS.1 {
+            true => OVER_ROWS.0,
+            false => call,
+        };
+        assert!(example.contains(&format!("{called}(")), "{called}");
     }
 }
 

@@ -1,7 +1,8 @@
 //! Ids of 128 bits. Version 3 of a record shows all of them. Version 2 cannot show
 //! a wide one, of which one of the upper eight bytes is not 0: a reply ends before
 //! such a record, and a read, a file read, a save in form 1 or a move to it that
-//! would have to show it is refused.
+//! would have to show it is refused. An enumeration leaves a file with one out, in
+//! either version.
 //!
 //! What is due is said here, and not by the model, but for the random calls at the
 //! end.
@@ -10,13 +11,14 @@ mod common;
 
 use common::journal::{behind, gave, given, moved, refused, success, Given, Journal, CAPACITY};
 use common::points::STORE;
+use common::table::{due, entry, enumerate, model_table, rows, EnumInput};
 use common::{check, image, is_wide, lay_out, record_length, selects};
 use common::{model_change, model_file, model_links, model_volume};
 use common::{version_of, Counts, Hex, Lent, ReadInput, Rng, CHANGE, FORMS, GUARD, NEGATIVE};
 use common::{NO_FORMS, TRAILER};
 use lanhduxe::Status::{self, *};
 use lanhduxe::{list_reply, read_record, walk_reply};
-use lanhduxe::{Change, FileId, FileRecord, Link, Record, Volume};
+use lanhduxe::{Change, Entry, FileId, FileRecord, Link, Record, Volume};
 use std::collections::{HashSet, VecDeque};
 
 /// An id in which one of the sixteen bytes has a value, and the lower ones are 1.
@@ -628,6 +630,42 @@ fn regions_and_reparse_points_have_no_ids() {
     }
 }
 
+// ---- Enumerations.
+
+/// A file with a wide id or parent is left out, wherever it stands, in version 3 too;
+/// the others come with every byte of their ids.
+#[test]
+fn an_enumeration_leaves_wide_ids_out() {
+    let top = FileId::from(u64::MAX);
+    let below = Entry {
+        id: FileId::from(u64::MAX - 1),
+        parent: top,
+        ..entry(0, 8, 0, 2)
+    };
+    let others = [entry(0x0807_0605_0403_0201, 8, 0, 2), below];
+    for (id, parent) in wide_pairs() {
+        // No file has the id 2^64 - 1.
+        let id = if id == top { FileId::new(7) } else { id };
+        let wide = Entry {
+            id,
+            parent,
+            ..entry(0, 8, 0, 2)
+        };
+        for version in [2, 3] {
+            let all = EnumInput::all(version);
+            let given = enumerate(&[wide], b"a\0", &all, 600);
+            assert_eq!(given, refused(EndOfFile), "{id:?} {parent:?}");
+            let due = due(&others, b"a\0", &all, 600);
+            assert_eq!(due.0, success(8 + 2 * record_length(version, 2)));
+            let [one, other] = others;
+            for table in [[one, other, wide], [wide, one, other], [other, wide, one]] {
+                let given = enumerate(&table, b"a\0", &all, 600);
+                assert_eq!(given, due, "{id:?} {parent:?}");
+            }
+        }
+    }
+}
+
 // ---- Saving and loading.
 
 /// A save in form 1 is refused while a record with a wide id is kept, whatever the
@@ -1010,6 +1048,7 @@ struct Run {
     reads: Counts,
     saves: Counts,
     files: Counts,
+    tables: Counts,
     records: Counts,
     index: u64,
 }
@@ -1283,6 +1322,66 @@ impl Run {
         self.index += 1;
     }
 
+    /// A table of few files, in which an id may stand twice.
+    fn enumerate(&mut self, volume: &Volume) {
+        let rng = &mut self.rng;
+        let name = common::name(rng, 20);
+        let mut table: Vec<Entry> = Vec::new();
+        for _ in 0..rng.below(6) {
+            let (mut id, parent) = common::ids(rng, 30);
+            if !table.is_empty() && rng.percent(15) {
+                // That of another file, all of it or one half.
+                let (from, to) = rng.pick(&[(0, 16), (0, 8), (8, 16)]);
+                id.bytes[from..to].copy_from_slice(&rng.pick(&table).id.bytes[from..to]);
+            }
+            table.push(Entry {
+                id,
+                parent,
+                ..entry(0, 8, 0, 20)
+            });
+        }
+        let version = rng.pick(&[2, 3]);
+        let input = EnumInput {
+            start: rng.pick(&[0, 0, 0, NEGATIVE, u64::MAX - 2]),
+            ..EnumInput::all(version)
+        };
+        let input = input.bytes(rng);
+        let limit = 8 + record_length(version, 20) as u64 * rng.below(6);
+        let room = rng.around(limit) as usize;
+        let lent = Lent::holding(rng, &rows(&table));
+        let mut output = Lent::output(rng, room);
+        let answer = volume.enumerate_rows(
+            &lent.library[..lent.length],
+            &name,
+            &input,
+            output.for_library(),
+        );
+        let by_model = model::enumerate(
+            &model_volume(volume),
+            &model_table(&table),
+            &name,
+            &input,
+            output.for_model(),
+        );
+        self.tables.add(answer.status);
+        check(
+            (answer.status.number(), answer.count) == by_model
+                && output.agrees(answer.count)
+                && lent.same(),
+            TEST,
+            self.index,
+            || {
+                format!(
+                    "enumeration: library {answer:?}, model {by_model:x?}, room {room}\n\
+                     {table:?} input {input:?}\nlibrary's {:?}\nmodel's {:?}",
+                    Hex(&output.library),
+                    Hex(&output.model)
+                )
+            },
+        );
+        self.index += 1;
+    }
+
     /// A record with any ids, whole or with a bit changed somewhere.
     fn read_record(&mut self) {
         let rng = &mut self.rng;
@@ -1337,19 +1436,21 @@ fn random_calls_agree_with_the_model() {
         reads: Counts::new("ids, reads"),
         saves: Counts::new("ids, saves"),
         files: Counts::new("ids, file reads"),
+        tables: Counts::new("ids, enumerations"),
         records: Counts::new("ids, records"),
         index: 0,
     };
-    while run.index < 300_000 {
+    while run.index < 330_000 {
         let mut both = Both::new(&mut run.rng);
         let wide = run.rng.pick(&[0, 5, 20, 50, 100]);
         for _ in 0..run.rng.between(10, 200) {
-            match run.rng.below(20) {
+            match run.rng.below(22) {
                 0..=5 => run.post(&mut both, wide),
                 6 => run.plant(&mut both),
                 7..=13 => run.read(&both),
                 14..=15 => run.save(&both),
                 16..=17 => run.read_file(&both.volume),
+                18..=19 => run.enumerate(&both.volume),
                 _ => run.read_record(),
             }
         }
@@ -1359,5 +1460,7 @@ fn random_calls_agree_with_the_model() {
     run.reads.finish(&expected, 80_000);
     run.saves.finish(&expected, 20_000);
     run.files.finish(&expected, 20_000);
+    let of_tables = [Success, EndOfFile, BufferTooSmall, FileCorruptError];
+    run.tables.finish(&of_tables, 20_000);
     run.records.finish(&[Success, InvalidParameter], 20_000);
 }

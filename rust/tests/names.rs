@@ -8,6 +8,7 @@ mod common;
 
 use common::images::usn_place;
 use common::journal::{gave, given, idle, moved, refused, Given, Journal, CAPACITY};
+use common::table::{due, entry, enumerate, EnumInput};
 use common::{image, lay_out, other_form, plant, record_length, seal, version_of};
 use common::{Rng, ALIKE, CHANGE, EXCLUDED, FORMS, GUARD, TRAILER};
 use lanhduxe::Status::{self, *};
@@ -446,6 +447,58 @@ fn a_file_read_gives_its_first_status() {
     assert_eq!(read(idle(0), &[]), refused(FileCorruptError));
 }
 
+// ---- Tables of files.
+
+/// Every row is judged: a name is refused though its file is not selected, and whatever
+/// the order of the rows is.
+#[test]
+fn names_are_judged_in_a_table() {
+    let corrupt = refused(FileCorruptError);
+    let selecting = EnumInput::all(3);
+    let not_selecting = EnumInput {
+        start: 2,
+        ..EnumInput::all(2)
+    };
+    let tried = each_name(|name, good| {
+        // The name is amid zeroes, and a good one is behind it.
+        let lent = Amid::new(name);
+        let pool = [&lent.all[..], b"x\0"].concat();
+        let it = entry(1, 8, lent.before as u64, name.len() as u32);
+        let x = entry(2, 8, pool.len() as u64 - 2, 2);
+        let empty = entry(3, 8, 0, 0);
+        for table in [&[it][..], &[it, x, empty], &[x, it, empty], &[empty, x, it]] {
+            for input in [&selecting, &not_selecting] {
+                let due = match good {
+                    true => due(table, &pool, input, 1000),
+                    false => corrupt.clone(),
+                };
+                let given = enumerate(table, &pool, input, 1000);
+                assert_eq!(given, due, "{name:x?} {table:?}");
+            }
+        }
+    });
+    assert_eq!(tried, TRIED);
+}
+
+/// Units of the pool that are in no row's name are nobody's, and a name may begin at an
+/// odd place.
+#[test]
+fn only_the_units_of_names_are_judged_in_a_tables_pool() {
+    let pool = *b"\0\0a\0/\0\\\0";
+    let all = EnumInput::all(2);
+    for place in 0..=8 {
+        let table = [entry(1, 8, place, 0), entry(2, 8, 2, 2), entry(3, 8, 1, 6)];
+        let given = enumerate(&table, &pool, &all, 600);
+        assert_eq!(given, due(&table, &pool, &all, 600), "{place}");
+        assert_eq!(given.0.status, Success);
+    }
+    for (place, length) in [(0, 2), (4, 2), (6, 2), (2, 4), (0, 8)] {
+        let table = [entry(1, 8, 2, 2), entry(2, 8, place, length)];
+        let given = enumerate(&table, &pool, &all, 600);
+        assert_eq!(given, refused(FileCorruptError), "{place} {length}");
+    }
+}
+
 // ---- Images.
 
 /// Loads into an idle journal.
@@ -794,6 +847,9 @@ fn judge_everywhere(name: &[u8], good: bool) {
     }
     let linked = read_file(name, &[link(0, name.len())]).0.status;
     assert_eq!(linked, due(FileCorruptError), "link {name:x?}");
+    let table = [entry(1, 8, 0, name.len() as u32)];
+    let listed = enumerate(&table, name, &EnumInput::all(2), ROOM).0.status;
+    assert_eq!(listed, due(FileCorruptError), "row {name:x?}");
     for form in FORMS {
         let bytes = image(form, &laid_out(version_of(form), 4096, &[name]), 4096, 7);
         let loaded = load(&bytes, 8).0;

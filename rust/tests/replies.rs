@@ -1,10 +1,11 @@
 //! The record reader, the walker and the lister on good, damaged and random
-//! replies: the library against the model.
+//! replies, of which some are those of an enumeration: the library against the model.
 
 mod common;
 
+use common::table::{enumerate, EnumInput};
 use common::{change_of, check, expected, lay_out, record_length, Counts, Hex, Lent, Rng};
-use lanhduxe::{list_reply, read_record, walk_reply, Change, Record, Status};
+use lanhduxe::{list_reply, read_record, walk_reply, Change, Entry, FileId, Record, Status};
 
 const CALLS: u64 = 100_000;
 
@@ -27,8 +28,36 @@ fn change(rng: &mut Rng, version: u16) -> Change {
     }
 }
 
+/// The reply of an enumeration, and where each of its records begins.
+fn reply_of_files(rng: &mut Rng) -> (Vec<u8>, Vec<usize>) {
+    let version = rng.pick(&[2, 3]);
+    let (mut table, mut pool) = (Vec::new(), Vec::new());
+    let (mut places, mut end) = (Vec::new(), 8);
+    let first = rng.pick(&[0, 41, u64::MAX - 8]);
+    for number in 0..rng.between(1, 8) {
+        let name = name(rng);
+        table.push(Entry {
+            id: FileId::from(first + number),
+            parent: common::narrow_id(rng),
+            usn: rng.long() >> 1,
+            attributes: rng.word(),
+            name_length: name.len() as u32,
+            name_place: pool.len() as u64,
+        });
+        places.push(end);
+        end += record_length(version, name.len());
+        pool.extend(name);
+    }
+    let (answer, reply) = enumerate(&table, &pool, &EnumInput::all(version), end);
+    assert_eq!((answer.status, answer.count), (Status::Success, end));
+    (reply, places)
+}
+
 /// A good reply, and where each of its records begins.
 fn good_reply(rng: &mut Rng) -> (Vec<u8>, Vec<usize>) {
+    if rng.percent(20) {
+        return reply_of_files(rng);
+    }
     let mut reply = rng.long().to_le_bytes().to_vec();
     let mut places = Vec::new();
     for _ in 0..rng.pick(&[0, 1, 1, 2, 3, 4, 8]) {

@@ -39,13 +39,19 @@ pub struct Link {
 impl Link {
     /// The link's name, or `None` if the entry is wrong.
     fn name(self, pool: &[u8]) -> Option<&[u8]> {
-        let length = self.length as usize;
-        if length > LONGEST_NAME || !length.is_multiple_of(2) {
-            return None;
-        }
-        let name = pool.get(self.place as usize..)?.get(..length)?;
-        has_good_units(name).then_some(name)
+        name_in(pool, self.place.into(), self.length)
     }
+}
+
+/// The name of that many bytes at a place of the pool, which may be empty. `None`
+/// if no file may have it or it does not lie inside the pool.
+pub(crate) fn name_in(pool: &[u8], place: u64, length: u32) -> Option<&[u8]> {
+    let length = length as usize;
+    if length > LONGEST_NAME || !length.is_multiple_of(2) {
+        return None;
+    }
+    let name = pool.get(place as usize..)?.get(..length)?;
+    has_good_units(name).then_some(name)
 }
 
 /// Largest file offset.

@@ -9,6 +9,8 @@ pub const BUFFER_OVERFLOW: u32 = 0x8000_0005;
 pub const INVALID_PARAMETER: u32 = 0xC000_000D;
 /// The volume does not support the control.
 pub const INVALID_DEVICE_REQUEST: u32 = 0xC000_0010;
+/// The table has no file that is asked for.
+pub const END_OF_FILE: u32 = 0xC000_0011;
 /// A buffer is too short.
 pub const BUFFER_TOO_SMALL: u32 = 0xC000_0023;
 /// A form number is not known, or the image does not have the one asked for.
@@ -17,7 +19,8 @@ pub const UNKNOWN_REVISION: u32 = 0xC000_0058;
 pub const DISK_FULL: u32 = 0xC000_007F;
 /// An id has more than 64 bits and cannot be shown in V2.
 pub const NOT_SUPPORTED: u32 = 0xC000_00BB;
-/// A file record, the volume record, the ring or the image is not sound.
+/// A file record, a table of files, the volume record, the ring or the image is not
+/// sound.
 pub const FILE_CORRUPT_ERROR: u32 = 0xC000_0102;
 /// The file has no reparse point.
 pub const NOT_A_REPARSE_POINT: u32 = 0xC000_0275;

@@ -2746,6 +2746,429 @@ fn move_keeps_the_fields() {
     assert_eq!(move_from(&two, 2, 160), (SUCCESS, one));
 }
 
+/// A file in folder 5 with no attributes, whose name is the pool's bytes from a
+/// place on.
+fn entry(id: u128, usn: u64, name_place: u64, name_length: u32) -> Entry {
+    Entry {
+        id,
+        parent: 5,
+        usn,
+        attributes: 0,
+        name_length,
+        name_place,
+    }
+}
+
+/// Input of an enumeration of 24 bytes, or of 32 if versions are given.
+fn from_to(start: u64, low: i64, high: i64, versions: Option<(u16, u16)>) -> Vec<u8> {
+    let mut input = start.to_le_bytes().to_vec();
+    input.extend(low.to_le_bytes());
+    input.extend(high.to_le_bytes());
+    if let Some((min, max)) = versions {
+        input.extend(min.to_le_bytes());
+        input.extend(max.to_le_bytes());
+        input.extend([0xEE; 4]);
+    }
+    input
+}
+
+/// Enumerates into a buffer of `size` bytes and checks that the rest is untouched.
+fn enumerated(table: &[Entry], pool: &[u8], input: &[u8], size: usize) -> (u32, Vec<u8>) {
+    let mut output = vec![0xCC; size];
+    let (status, count) = enumerate(&volume(0), table, pool, input, &mut output);
+    assert!(output[count..].iter().all(|&b| b == 0xCC));
+    output.truncate(count);
+    (status, output)
+}
+
+/// The reply with an id to go on from and these files, in a version.
+fn reply_with(version: u16, next: u64, files: &[Entry], pool: &[u8]) -> (u32, Vec<u8>) {
+    let mut reply = next.to_le_bytes().to_vec();
+    for file in files {
+        let c = Change {
+            file: file.id,
+            parent: file.parent,
+            attributes: file.attributes,
+            ..Change::default()
+        };
+        let place = file.name_place as usize;
+        let name = &pool[place..place + file.name_length as usize];
+        reply.extend(plain(version, &c, file.usn, name));
+    }
+    (SUCCESS, reply)
+}
+
+/// The ids in a reply, and the one to go on from.
+fn ids_of(reply: &[u8]) -> (u64, Vec<u128>) {
+    let (next, count) = walk_reply(reply).unwrap();
+    let mut at = 8;
+    let ids: Vec<u128> = (0..count)
+        .map(|_| {
+            let record = read_record(reply, at).unwrap();
+            at = record.next;
+            record.file
+        })
+        .collect();
+    (next, ids)
+}
+
+/// The reply of three files in V2: 3, without a name; 7; 9, with the attributes
+/// 0x20 and a name of three units.
+#[rustfmt::skip]
+const THREE_FILES: [u8; 208] = [
+    10, 0, 0, 0, 0, 0, 0, 0,
+    64, 0, 0, 0, 2, 0, 0, 0, 3, 0, 0, 0, 0, 0, 0, 0,
+    5, 0, 0, 0, 0, 0, 0, 0, 0, 0, 0, 0, 0, 0, 0, 0,
+    0, 0, 0, 0, 0, 0, 0, 0, 0, 0, 0, 0, 0, 0, 0, 0,
+    0, 0, 0, 0, 0x80, 0, 0, 0, 0, 0, 60, 0, 0, 0, 0, 0,
+    64, 0, 0, 0, 2, 0, 0, 0, 7, 0, 0, 0, 0, 0, 0, 0,
+    5, 0, 0, 0, 0, 0, 0, 0, 0x50, 0x10, 0, 0, 0, 0, 0, 0,
+    0, 0, 0, 0, 0, 0, 0, 0, 0, 0, 0, 0, 0, 0, 0, 0,
+    0, 0, 0, 0, 0x80, 0, 0, 0, 2, 0, 60, 0, 0x61, 0, 0, 0,
+    72, 0, 0, 0, 2, 0, 0, 0, 9, 0, 0, 0, 0, 0, 0, 0,
+    7, 0, 0, 0, 0, 0, 0, 0, 0xFF, 0xFF, 0xFF, 0xFF, 0xFF, 0xFF, 0xFF, 0x7F,
+    0, 0, 0, 0, 0, 0, 0, 0, 0, 0, 0, 0, 0, 0, 0, 0,
+    0, 0, 0, 0, 0x20, 0, 0, 0, 6, 0, 60, 0, 0x62, 0, 0x63, 0,
+    0x64, 0, 0, 0, 0, 0, 0, 0,
+];
+
+/// The last of them in V3, behind its id and 1.
+#[rustfmt::skip]
+const ONE_FILE: [u8; 96] = [
+    10, 0, 0, 0, 0, 0, 0, 0,
+    88, 0, 0, 0, 3, 0, 0, 0, 9, 0, 0, 0, 0, 0, 0, 0,
+    0, 0, 0, 0, 0, 0, 0, 0, 7, 0, 0, 0, 0, 0, 0, 0,
+    0, 0, 0, 0, 0, 0, 0, 0, 0xFF, 0xFF, 0xFF, 0xFF, 0xFF, 0xFF, 0xFF, 0x7F,
+    0, 0, 0, 0, 0, 0, 0, 0, 0, 0, 0, 0, 0, 0, 0, 0,
+    0, 0, 0, 0, 0x20, 0, 0, 0, 6, 0, 76, 0, 0x62, 0, 0x63, 0,
+    0x64, 0, 0, 0, 0, 0, 0, 0,
+];
+
+/// These files in any order, with their pool.
+fn three_files() -> ([Entry; 3], &'static [u8]) {
+    let nine = Entry {
+        parent: 7,
+        attributes: 0x20,
+        ..entry(9, (1 << 63) - 1, 2, 6)
+    };
+    let table = [entry(3, 0, 8, 0), entry(7, 0x1050, 0, 2), nine];
+    (table, b"a\0b\0c\0d\0")
+}
+
+#[test]
+fn enumeration_bytes() {
+    let (files, pool) = three_files();
+    let orders = [
+        [0, 1, 2],
+        [0, 2, 1],
+        [1, 0, 2],
+        [1, 2, 0],
+        [2, 0, 1],
+        [2, 1, 0],
+    ];
+    for order in orders {
+        let table = order.map(|place: usize| files[place]);
+        let all = from_to(0, 0, i64::MAX, None);
+        let whole = (SUCCESS, THREE_FILES.to_vec());
+        assert_eq!(enumerated(&table, pool, &all, 208), whole, "{order:?}");
+        let last = from_to(8, 0, i64::MAX, Some((2, 3)));
+        let one = (SUCCESS, ONE_FILE.to_vec());
+        assert_eq!(enumerated(&table, pool, &last, 600), one, "{order:?}");
+    }
+    assert_eq!(walk_reply(&THREE_FILES), Ok((10, 3)));
+    assert_eq!(walk_reply(&ONE_FILE), Ok((10, 1)));
+}
+
+/// Each refusal comes behind those before it: a call has all faults at first, and
+/// loses them one after the other.
+#[test]
+fn enumeration_order() {
+    let (files, pool) = three_files();
+    let bad = Entry {
+        usn: 1 << 63,
+        ..files[0]
+    };
+    let status = |v: &Volume, table: &[Entry], input: &[u8], size| {
+        let mut output = vec![0xCC; size];
+        let (status, count) = enumerate(v, table, pool, input, &mut output);
+        assert_eq!(count, 0);
+        assert!(output.iter().all(|&b| b == 0xCC));
+        status
+    };
+    let v = volume(0);
+    let unsupported = Volume { journal: 0, ..v };
+    // Above every Usn, and with the lowest version above the highest.
+    let input = from_to(10, 0, 8, Some((3, 2)));
+    let short = &input[..23];
+    let got = status(&unsupported, &[bad], short, 7);
+    assert_eq!(got, INVALID_DEVICE_REQUEST);
+    assert_eq!(status(&v, &[bad], short, 7), FILE_CORRUPT_ERROR);
+    assert_eq!(status(&v, &files, short, 7), INVALID_PARAMETER);
+    assert_eq!(status(&v, &files, &input, 7), INVALID_PARAMETER);
+    let right = from_to(10, 0, 8, Some((0, 2)));
+    assert_eq!(status(&v, &files, &right, 7), BUFFER_TOO_SMALL);
+    assert_eq!(status(&v, &files, &right, 8), END_OF_FILE);
+    assert_eq!(status(&v, &[], &right, 8), END_OF_FILE);
+    let some = from_to(0, 0, 8, Some((0, 2)));
+    for size in 8..72 {
+        assert_eq!(status(&v, &files, &some, size), BUFFER_TOO_SMALL, "{size}");
+    }
+    let reply = reply_with(2, 4, &files[..1], pool);
+    assert_eq!(enumerated(&files, pool, &some, 72), reply);
+
+    // Other flags and the journal's state do not matter.
+    let journal_alone = Volume {
+        journal: 2,
+        state: 2,
+        ..Volume::default()
+    };
+    let mut output = [0; 72];
+    let got = enumerate(&journal_alone, &files, pool, &some, &mut output);
+    assert_eq!((got, output.to_vec()), ((SUCCESS, 72), reply.1));
+}
+
+#[test]
+fn enumeration_versions() {
+    let (files, pool) = three_files();
+    for size in 0..=40 {
+        let mut input = from_to(0, 0, i64::MAX, Some((2, 3)));
+        input.resize(40, 0xEE);
+        input.truncate(size);
+        let due = match size {
+            ..24 => (INVALID_PARAMETER, vec![]),
+            24..32 => reply_with(2, 10, &files, pool),
+            _ => reply_with(3, 10, &files, pool),
+        };
+        assert_eq!(enumerated(&files, pool, &input, 600), due, "{size}");
+    }
+    for (min, max, version) in [
+        (0, 2, Some(2)),
+        (2, 2, Some(2)),
+        (0, 3, Some(3)),
+        (3, 3, Some(3)),
+        (2, 9, Some(3)),
+        (3, 2, None),
+        (4, 9, None),
+        (0, 1, None),
+    ] {
+        let input = from_to(0, 0, i64::MAX, Some((min, max)));
+        let due = match version {
+            Some(version) => reply_with(version, 10, &files, pool),
+            None => (INVALID_PARAMETER, vec![]),
+        };
+        assert_eq!(enumerated(&files, pool, &input, 600), due, "{min} {max}");
+    }
+}
+
+/// Both ends of the Usns are in, and they are signed; a start is in too.
+#[test]
+fn enumeration_selection() {
+    let (files, pool) = three_files();
+    let usns = files.map(|file| file.usn as i64);
+    let ends = [
+        i64::MIN,
+        -1,
+        0,
+        1,
+        0x104F,
+        0x1050,
+        0x1051,
+        i64::MAX - 1,
+        i64::MAX,
+    ];
+    let starts = [0, 2, 3, 4, 6, 7, 8, 9, 10, 1 << 63, u64::MAX];
+    let mut seen = [0; 4];
+    for start in starts {
+        for low in ends {
+            for high in ends {
+                let selected: Vec<Entry> = (0..3)
+                    .filter(|&file| files[file].id >= start.into())
+                    .filter(|&file| low <= usns[file] && usns[file] <= high)
+                    .map(|file| files[file])
+                    .collect();
+                seen[selected.len()] += 1;
+                let due = match selected.last() {
+                    Some(last) => reply_with(2, last.id as u64 + 1, &selected, pool),
+                    None => (END_OF_FILE, vec![]),
+                };
+                let input = from_to(start, low, high, None);
+                let got = enumerated(&files, pool, &input, 600);
+                assert_eq!(got, due, "{start} {low} {high}");
+            }
+        }
+    }
+    assert!(seen.iter().all(|&count| count > 5), "{seen:?}");
+}
+
+/// As many files as fit, and the id of the first that does not.
+#[test]
+fn enumeration_rooms() {
+    let (files, pool) = three_files();
+    for (version, ends) in [(2, [72, 136, 208]), (3, [88, 168, 256])] {
+        let all = from_to(0, 0, i64::MAX, Some((2, version)));
+        for size in 0..=300 {
+            let due = match ends.iter().filter(|&&end| end <= size).count() {
+                0 => (BUFFER_TOO_SMALL, vec![]),
+                3 => reply_with(version, 10, &files, pool),
+                fitting => {
+                    let next = files[fitting].id as u64;
+                    reply_with(version, next, &files[..fitting], pool)
+                }
+            };
+            assert_eq!(enumerated(&files, pool, &all, size), due, "{size}");
+        }
+    }
+    // A file that does not fit ends the reply, though the next one would fit.
+    let table = [entry(1, 0, 0, 0), entry(2, 0, 0, 6), entry(3, 0, 0, 0)];
+    let all = from_to(0, 0, 0, None);
+    let got = enumerated(&table, pool, &all, 8 + 64 + 64 + 7);
+    assert_eq!(got, reply_with(2, 2, &table[..1], pool));
+}
+
+/// The highest id that a file may have is given with the one above it.
+#[test]
+fn enumeration_ids() {
+    let top = u128::from(u64::MAX);
+    let all = from_to(0, 0, i64::MAX, Some((3, 3)));
+    let table = [entry(top - 1, 1, 0, 0), entry(0, 2, 0, 0)];
+    let files = [table[1], table[0]];
+    let got = enumerated(&table, b"", &all, 600);
+    assert_eq!(got, reply_with(3, u64::MAX, &files, b""));
+    let next = from_to(u64::MAX, 0, i64::MAX, None);
+    assert_eq!(enumerated(&table, b"", &next, 600).0, END_OF_FILE);
+
+    // 2^64 - 1 is refused, wherever it stands; a wide id with this lower half is not.
+    for place in 0..3 {
+        let mut table = vec![entry(2, 0, 0, 0), entry(4, 0, 0, 0)];
+        table.insert(place, entry(top, 0, 0, 0));
+        for input in [&all, &next, &from_to(0, 1, 0, None)] {
+            let got = enumerated(&table, b"", input, 600);
+            assert_eq!(got, (FILE_CORRUPT_ERROR, vec![]), "{place}");
+        }
+        table[place].id = top | 1 << 127;
+        let got = enumerated(&table, b"", &all, 600);
+        let files = [entry(2, 0, 0, 0), entry(4, 0, 0, 0)];
+        assert_eq!(got, reply_with(3, 5, &files, b""), "{place}");
+    }
+
+    // Files with a wide id or parent are left out in either version.
+    for (id, parent) in wide_pairs() {
+        let wide = Entry {
+            parent,
+            ..entry(id, 0, 0, 0)
+        };
+        for versions in [None, Some((2, 3))] {
+            let input = from_to(0, 0, 0, versions);
+            assert_eq!(enumerated(&[wide], b"", &input, 600).0, END_OF_FILE);
+            let others = [entry(1, 0, 0, 0), entry(8, 0, 0, 0)];
+            let due = reply_with(versions.map_or(2, |v| v.1), 9, &others, b"");
+            for table in [[others[0], wide, others[1]], [wide, others[1], others[0]]] {
+                let got = enumerated(&table, b"", &input, 600);
+                assert_eq!(got, due, "{id:x} {parent:x}");
+            }
+        }
+    }
+}
+
+/// An id that stands twice is refused at any two places, be it wide or not; ids
+/// that share one half are different ones.
+#[test]
+fn enumeration_twice() {
+    let all = from_to(0, 0, i64::MAX, None);
+    for size in 2..9 {
+        let rising: Vec<Entry> = (0..size).map(|n| entry(2 * n, 0, 0, 0)).collect();
+        let falling: Vec<Entry> = rising.iter().rev().copied().collect();
+        for before in [rising, falling] {
+            for (one, other) in (0..size).flat_map(|a| (0..a).map(move |b| (a, b))) {
+                for id in [before[one as usize].id, 3, 1 << 64 | 3] {
+                    let mut table = before.clone();
+                    table[one as usize].id = id;
+                    table[other as usize].id = id;
+                    let got = enumerated(&table, b"", &all, 2000).0;
+                    assert_eq!(got, FILE_CORRUPT_ERROR, "{one} {other} {id:x}");
+                    table[other as usize].id ^= 1 << 100;
+                    let got = enumerated(&table, b"", &all, 2000);
+                    let due = match table.iter().filter(|file| file.id >> 64 == 0).count() {
+                        0 => (END_OF_FILE, 0),
+                        narrow => (SUCCESS, 8 + 64 * narrow),
+                    };
+                    assert_eq!((got.0, got.1.len()), due, "{one} {other} {id:x}");
+                }
+            }
+        }
+    }
+}
+
+/// A row is refused though the call does not ask for it.
+#[test]
+fn enumeration_bad_rows() {
+    let pool = [0x61; 512];
+    let status = |bad: Entry, place: usize| {
+        let mut table = vec![entry(2, 8, 0, 2), entry(4, 8, 510, 2)];
+        table.insert(place, bad);
+        let got = enumerated(&table, &pool, &from_to(4, 8, 8, None), 600);
+        if got.0 == SUCCESS {
+            assert_eq!(ids_of(&got.1), (5, vec![4]));
+        }
+        got.0
+    };
+    for place in 0..3 {
+        for (usn, due) in [
+            ((1 << 63) - 1, SUCCESS),
+            (1 << 63, FILE_CORRUPT_ERROR),
+            (u64::MAX, FILE_CORRUPT_ERROR),
+        ] {
+            assert_eq!(status(entry(3, usn, 0, 2), place), due, "{usn:x}");
+            assert_eq!(status(entry(1 << 64, usn, 0, 2), place), due, "{usn:x}");
+        }
+        for (at, length, due) in [
+            (0, 510, SUCCESS),
+            (2, 510, SUCCESS),
+            (3, 510, FILE_CORRUPT_ERROR),
+            (0, 512, FILE_CORRUPT_ERROR),
+            (0, 1, FILE_CORRUPT_ERROR),
+            (0, 509, FILE_CORRUPT_ERROR),
+            (0, u32::MAX, FILE_CORRUPT_ERROR),
+            (0, 1 << 31, FILE_CORRUPT_ERROR),
+            (511, 2, FILE_CORRUPT_ERROR),
+            (512, 0, SUCCESS),
+            (513, 0, FILE_CORRUPT_ERROR),
+            (512, 2, FILE_CORRUPT_ERROR),
+            (u64::MAX, 0, FILE_CORRUPT_ERROR),
+            (u64::MAX, 2, FILE_CORRUPT_ERROR),
+            (u64::MAX - 1, 2, FILE_CORRUPT_ERROR),
+            (u64::MAX - 509, 510, FILE_CORRUPT_ERROR),
+            (1 << 32, 2, FILE_CORRUPT_ERROR),
+            (1 << 63, 2, FILE_CORRUPT_ERROR),
+        ] {
+            let bad = entry(3, 0, at, length);
+            assert_eq!(status(bad, place), due, "{at} {length}");
+        }
+    }
+}
+
+#[test]
+fn names_in_a_table() {
+    for (names, due) in [
+        (&GOOD_NAMES[..], SUCCESS),
+        (&BAD_NAMES[..], FILE_CORRUPT_ERROR),
+    ] {
+        for name in names {
+            let pool = [b"x\0", *name, &[0; 4]].concat();
+            let it = entry(1, 0, 2, name.len() as u32);
+            let table = [it, entry(3, 8, 0, 2), entry(2, 8, 2, 0)];
+            let got = enumerated(&table, &pool, &from_to(0, 0, 0, None), 600);
+            assert_eq!(got.0, due, "{name:?}");
+            if due == SUCCESS {
+                assert_eq!(got, reply_with(2, 2, &[it], &pool), "{name:?}");
+            }
+            // A name is judged though its file is not asked for.
+            let others = enumerated(&table, &pool, &from_to(0, 8, 8, None), 600);
+            assert_eq!(others.0, due, "{name:?}");
+        }
+    }
+}
+
 /// A small generator of random numbers.
 struct Random(u64);
 
@@ -2756,6 +3179,29 @@ impl Random {
             .wrapping_mul(6364136223846793005)
             .wrapping_add(1442695040888963407);
         (self.0 >> 33) % limit
+    }
+
+    /// A number, or in one of three cases one that is often the last or the first of
+    /// a kind.
+    fn edge(&mut self, number: u64) -> u64 {
+        const EDGES: [u64; 12] = [
+            0,
+            1,
+            8,
+            80,
+            1024,
+            1040,
+            65_536,
+            1 << 31,
+            (1 << 63) - 8,
+            1 << 63,
+            u64::MAX - 7,
+            u64::MAX,
+        ];
+        match self.below(3) {
+            0 => EDGES[self.below(EDGES.len() as u64) as usize],
+            _ => number,
+        }
     }
 
     /// A good name: a unit whose upper byte is not 0 is none of the excluded.
@@ -2872,32 +3318,89 @@ fn random_calls() {
     assert!(seen.iter().all(|&count| count > 100), "{seen:?}");
 }
 
+/// Random tables are followed to their end, each call from the id that the last one
+/// gave, with any room of 600 bytes or more and either version: every selected file
+/// comes once, in order.
+#[test]
+fn random_tables() {
+    let mut random = Random(3);
+    let (mut calls, mut files, mut left_out) = (0, 0, 0);
+    for round in 0..300 {
+        let pool = random.name(1024);
+        let mut table: Vec<Entry> = vec![];
+        let mut id = u128::from(random.below(3));
+        for _ in 0..random.below(60) {
+            let length = 2 * random.below([256, 12][round % 2]);
+            let wide = |random: &mut Random| u128::from(random.below(10) == 0) << 64;
+            table.push(Entry {
+                id: id | wide(&mut random),
+                parent: u128::from(random.below(1 << 31)) | wide(&mut random),
+                usn: random.below(100),
+                attributes: random.below(3) as u32,
+                name_length: length as u32,
+                name_place: 2 * random.below((1024 - length) / 2 + 1),
+            });
+            id += 1 + u128::from(random.below(5)) * u128::from(random.below(1 << 31));
+        }
+        // As it stands, backwards, or with some files exchanged.
+        match random.below(4) {
+            0 => {}
+            1 => table.reverse(),
+            _ => {
+                for _ in 0..random.below(60) {
+                    let size = table.len() as u64;
+                    if size > 0 {
+                        table.swap(random.below(size) as usize, random.below(size) as usize);
+                    }
+                }
+            }
+        }
+        let (low, high) = (random.below(40) as i64, 60 + random.below(40) as i64);
+        let mut due: Vec<Entry> = table.clone();
+        due.retain(|file| low <= file.usn as i64 && file.usn as i64 <= high);
+        left_out += due
+            .iter()
+            .filter(|f| f.id >> 64 | f.parent >> 64 != 0)
+            .count();
+        due.retain(|file| file.id >> 64 == 0 && file.parent >> 64 == 0);
+        due.sort_by_key(|file| file.id);
+
+        let (mut start, mut given) = (0, 0);
+        loop {
+            let version = 2 + random.below(2) as u16;
+            let input = from_to(start, low, high, Some((0, version)));
+            let (status, reply) =
+                enumerated(&table, &pool, &input, 600 + random.below(900) as usize);
+            calls += 1;
+            if given == due.len() {
+                assert_eq!(status, END_OF_FILE);
+                break;
+            }
+            let (next, ids) = ids_of(&reply);
+            let shown = &due[given..given + ids.len()];
+            assert!(!ids.is_empty());
+            assert_eq!((status, reply), reply_with(version, next, shown, &pool));
+            given += ids.len();
+            start = next;
+        }
+        files += given;
+    }
+    assert!(
+        files > 3000 && left_out > 500 && calls > 1000,
+        "{files} {left_out} {calls}"
+    );
+}
+
 /// No call panics on garbage, and a refusal changes nothing.
 #[test]
 fn garbage() {
-    let mut random = Random(2);
+    let (mut random, mut random_rows) = (Random(2), Random(4));
     let (mut warnings, mut set_points, mut deleted_points) = (0, 0, 0);
-    let edges = [
-        0,
-        1,
-        8,
-        80,
-        1024,
-        1040,
-        65_536,
-        1 << 31,
-        (1 << 63) - 8,
-        1 << 63,
-        u64::MAX - 7,
-        u64::MAX,
-    ];
+    let mut enumerations = 0;
     let (sound, kept) = thirteen();
     for _ in 0..60_000 {
         let mut v = sound;
-        let mut edge = |old: u64| match random.below(3) {
-            0 => edges[random.below(edges.len() as u64) as usize],
-            _ => old,
-        };
+        let mut edge = |old| random.edge(old);
         (v.first, v.last, v.capacity, v.id) = (edge(80), edge(1040), edge(1024), edge(3));
         let asked = ask(
             edge(80),
@@ -2920,6 +3423,21 @@ fn garbage() {
             short: edge(0) as u32,
         }; 2];
         let query = range(edge(0), edge(8), edge(1) as u32);
+        let mut edge = |old| random_rows.edge(old);
+        let table = [2, 1].map(|id| Entry {
+            id: edge(id).into(),
+            parent: edge(5).into(),
+            usn: edge(8),
+            attributes: edge(0) as u32,
+            name_length: edge(2) as u32,
+            name_place: edge(80),
+        });
+        let listed = from_to(
+            edge(0),
+            edge(0) as i64,
+            edge(80) as i64,
+            Some((0, edge(2) as u16)),
+        );
         let mut ring = kept.clone();
         for _ in 0..random.below(3) {
             let at = random.below(1024) as usize;
@@ -2934,6 +3452,7 @@ fn garbage() {
         let store = vec![0xBB; 16_374 + random.below(6) as usize];
         let cut = |bytes: &[u8], n: u64| bytes[..bytes.len().min(n as usize)].to_vec();
         let asked = cut(&asked, 30 + random.below(40));
+        let listed = cut(&listed, 20 + random_rows.below(40));
         let query = cut(&query, random.below(60));
         let form = random.below(4) as u32;
         let mut image =
@@ -2941,17 +3460,18 @@ fn garbage() {
         let at = random.below(image.len() as u64) as usize;
         image[at] = random.below(256) as u8;
         let image = cut(&image, 90 + random.below(40));
-        for call in 0..6 {
+        for call in 0..7 {
             let (status, count) = match call {
                 0 => read_journal(&v, &ring, &asked, &mut output),
                 4 => save_journal(&v, &ring, form, &mut output),
                 5 => move_image(&image, form, &mut output),
+                6 => enumerate(&v, &table, &kept, &listed, &mut output),
                 1 => read_file(&v, &f, 1, &kept, &links, &query, &mut output),
                 2 => query_file_regions(&v, &f, &query, &mut output),
                 _ => get_reparse_point(&v, &f, &store, &mut output),
             };
             match status {
-                SUCCESS => {}
+                SUCCESS => enumerations += u32::from(call == 6),
                 // Only the region query warns, and with its first region.
                 BUFFER_OVERFLOW => {
                     assert_eq!((call, count), (2, 40));
@@ -2985,5 +3505,6 @@ fn garbage() {
         assert!(read_record(&ring, at).is_none_or(|r| r.next <= ring.len()));
         assert!(walk_reply(&ring).is_ok() || walk_reply(&ring).is_err_and(|at| at <= ring.len()));
     }
-    assert!(warnings > 0 && set_points > 0 && deleted_points > 0);
+    let seen = [warnings, set_points, deleted_points, enumerations];
+    assert!(seen.iter().all(|&count| count > 0), "{seen:?}");
 }

@@ -1,12 +1,13 @@
 //! What the tests share: random numbers, the seed, counts of statuses, lent
 //! buffers with guard bytes, names, ids, the layout of a record, a journal,
-//! images, and reparse points.
+//! images, reparse points, and tables of files.
 
 #![allow(dead_code)]
 
 pub mod images;
 pub mod journal;
 pub mod points;
+pub mod table;
 
 use lanhduxe::{Change, FileId, FileRecord, Link, Record, Status, Volume};
 use std::fmt;
@@ -275,6 +276,14 @@ pub mod expected {
         IoReparseDataInvalid,
         VolumeNotUpgraded,
         ReparseAttributeConflict,
+    ];
+    pub const TABLE: [Status; 6] = [
+        Success,
+        InvalidParameter,
+        InvalidDeviceRequest,
+        EndOfFile,
+        BufferTooSmall,
+        FileCorruptError,
     ];
     pub const RECORD: [Status; 2] = [Success, InvalidParameter];
     pub const LISTER: [Status; 2] = [Success, BufferTooSmall];
@@ -556,19 +565,24 @@ impl ReadInput {
 
     /// The version that this input asks for, if it asks for a known one.
     pub fn version(&self) -> Option<u16> {
-        if self.size < 48 {
-            return Some(2);
+        match self.size {
+            ..48 => Some(2),
+            _ => version_from(self.lowest, self.highest),
         }
-        if self.lowest > self.highest || self.lowest > 3 || self.highest < 2 {
-            return None;
-        }
-        Some(if self.highest >= 3 { 3 } else { 2 })
     }
 
     /// Whether the mask and the flag select a reason.
     pub fn selects(&self, reason: u32) -> bool {
         selects(self.mask, self.only_on_close, reason)
     }
+}
+
+/// The version that a reply has for these two, if it has one.
+pub fn version_from(lowest: u16, highest: u16) -> Option<u16> {
+    if lowest > highest || lowest > 3 || highest < 2 {
+        return None;
+    }
+    Some(if highest >= 3 { 3 } else { 2 })
 }
 
 /// The input of a region query. Its last four bytes are ignored.
