@@ -1,4 +1,4 @@
-/* What the loop of follow.c wants from the service around it. */
+/* What follow.c wants from the service around it. */
 #ifndef FOLLOW_H
 #define FOLLOW_H
 
@@ -19,19 +19,22 @@ uint64_t journal_id(void);
 /* Sends the input of a read to the server, and brings back its answer and the reply. */
 usn_answer ask(const uint8_t *input, size_t input_size, uint8_t *reply, size_t reply_size);
 
-/* Acts on one change. */
+/* Acts on one change, of a file that it may not know yet. */
 void act_on(const usn_record *record, const uint8_t *name);
 
 /* The same with the input of an enumeration. */
 usn_answer ask_files(const uint8_t *input, size_t input_size, uint8_t *reply, size_t reply_size);
 
-/* Forgets the files that it knew: a fresh list begins. */
-void forget_files(void);
+/* A fresh list begins: from here on it is remembered which files were seen in it, or acted on. */
+void list_begins(void);
 
-/* Takes a file of that list. */
+/* Takes a file of the list, as it is now. Where a record that was acted on has a higher Usn, that counts. */
 void see_file(const usn_record *record, const uint8_t *name);
 
-/* Both return the server's status. Where `begin` does not succeed, it is to be called again: the list may be cut. */
+/* The list is whole: a file that was known before it began, and was neither seen nor acted on since, is gone or is left out of lists. */
+void list_ends(void);
+
+/* Both return the server's status. */
 uint32_t begin(follower *self);
 uint32_t follow(follower *self);
 

@@ -1,6 +1,6 @@
 /*
  * A server with a ring of 1,024 bytes that saves its journal by restart.c, and a service that follows it by follow.c: once in time, once
- * too late, once after the journal was deleted and created anew, once after a restart, once after one that found half an image, and once
+ * too late, when a file has been deleted meanwhile, once after the journal was deleted and created anew, once after a restart, once after one that found half an image, and once
  * after one that found an image with more bytes behind it. Last, starts that must leave the image where it is.
  */
 #define _POSIX_C_SOURCE 200809L
@@ -51,6 +51,16 @@ static usn_entry *row_of(uint64_t file)
         table[files++] = (usn_entry){ .id = usn_id_of(file), .parent = usn_id_of(5) };
     }
     return &table[files - 1];
+}
+
+/* Posts the deletion of the file with the lowest id, whose row goes. */
+static void delete_first(void)
+{
+    usn_change change = { .file = table[0].id, .parent = table[0].parent, .reason = 0x80000200 };
+    expect(usn_post(&volume, ring, sizeof ring, change, pool + table[0].name_place, table[0].name_length, &table[0].usn));
+    want(save(folder), "save");
+    memmove(table, table + 1, --files * sizeof table[0]);
+    printf("deleted one\n");
 }
 
 /* The name stands in the pool. The row has its Usn from the post. */
@@ -160,14 +170,31 @@ usn_answer ask(const uint8_t *input, size_t input_size, uint8_t *reply, size_t r
     return usn_read_journal(volume, ring, sizeof ring, input, input_size, reply, reply_size);
 }
 
-static void print_record(const char *what, const usn_record *record, const uint8_t *name)
+/* The files that the service knows, and whether each was met since its list began. */
+static struct { uint64_t file; int met; } known[8];
+static size_t knows;
+
+/* The place of the record's file among them, where it is put if it is new. */
+static size_t meet(const char *what, const usn_record *record, const uint8_t *name)
 {
-    printf("  %s %" PRIu64 ", name %c, Usn %" PRIu64 "\n", what, usn_get_number(record->file.bytes, 8), name[0], record->usn);
+    uint64_t file = usn_get_number(record->file.bytes, 8);
+    printf("  %s %" PRIu64 ", name %c, Usn %" PRIu64 "\n", what, file, name[0], record->usn);
+    size_t i = 0;
+    while (i < knows && known[i].file != file)
+        i++;
+    if (i == knows) {
+        want(knows < sizeof known / sizeof known[0], "room for a file");
+        known[knows++].file = file;
+    }
+    known[i].met = 1;
+    return i;
 }
 
 void act_on(const usn_record *record, const uint8_t *name)
 {
-    print_record("file", record, name);
+    size_t i = meet("file", record, name);
+    if (record->reason & 0x00000200) /* it was deleted */
+        known[i] = known[--knows];
 }
 
 usn_answer ask_files(const uint8_t *input, size_t input_size, uint8_t *reply, size_t reply_size)
@@ -175,14 +202,28 @@ usn_answer ask_files(const uint8_t *input, size_t input_size, uint8_t *reply, si
     return usn_enumerate_files(volume, table, files, pool, sizeof pool, input, input_size, reply, reply_size);
 }
 
-void forget_files(void)
+void list_begins(void)
 {
+    for (size_t i = 0; i < knows; i++)
+        known[i].met = 0;
     printf("  lists the files\n");
 }
 
 void see_file(const usn_record *record, const uint8_t *name)
 {
-    print_record("sees file", record, name);
+    meet("sees file", record, name);
+}
+
+void list_ends(void)
+{
+    size_t left = 0;
+    for (size_t i = 0; i < knows; i++) {
+        if (known[i].met)
+            known[left++] = known[i];
+        else
+            printf("  file %" PRIu64 " is gone\n", known[i].file);
+    }
+    knows = left;
 }
 
 int main(void)
@@ -200,6 +241,7 @@ int main(void)
     post(41, 2);
     expect(follow(&service));
 
+    delete_first();
     post(42, 14); /* the ring keeps twelve of them */
     expect(follow(&service));
 

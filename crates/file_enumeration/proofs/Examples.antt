@@ -13,7 +13,7 @@ use Rattle.status.specs.declared.Status.the-variants.{Success, InvalidParameter
 use Rattle.status.specs.Reply.{Reply, refuse, give}
 use Rattle.volume.specs.declared.Volume.{Volume}
 use Rattle.usn_record.specs.Layout.{layout}
-use Rattle.file_table.specs.Table.{firstRows, rows, goodRow, goodRows, hasId, distinct, goodTable}
+use Rattle.file_table.specs.Table.{firstRows, rows, goodRow, goodRows, hasId, distinct, rightTable}
 use Rattle.file_enumeration.specs.declared.Query.{Query}
 use Rattle.file_enumeration.specs.Enumerate.{selects, selected, insert, byId, pageOf, rowsBytes, inputCheck, enumCheck, pageReply, enumReply}
 use Rattle.file_enumeration.specs.Follow.{Turn, Followed, Sized}
@@ -68,8 +68,8 @@ files = nine ++ (five ++ seven)
 -- ---- the replies
 
 -- a start, LowUsn 0, and the top byte of HighUsn, whose other bytes are 255, 3, 0, 0, 0, 0, 0
-abbrev pub inputOf : ℕ → ℕ → List ℕ
-inputOf start top =
+abbrev pub asking : ℕ → ℕ → List ℕ
+asking start top =
     start ∷ 0 ∷ 0 ∷ 0 ∷ 0 ∷ 0 ∷ 0 ∷ 0
     ∷ 0 ∷ 0 ∷ 0 ∷ 0 ∷ 0 ∷ 0 ∷ 0 ∷ 0
     ∷ 255 ∷ 3 ∷ 0 ∷ 0 ∷ 0 ∷ 0 ∷ 0 ∷ top ∷ []
@@ -110,28 +110,28 @@ pub record Example : Type 0 where
 
 abbrev pub examples : List Example
 examples =
-    record { table = files; input = inputOf 0 1; room = 136; reply = give Success (next 10 ++ (recordFive ++ recordNine)) }
+    record { table = files; input = asking 0 1; room = 136; reply = give Success (next 10 ++ (recordFive ++ recordNine)) }
     -- only the first fits
-    ∷ record { table = files; input = inputOf 0 1; room = 135; reply = give Success (next 9 ++ recordFive) }
-    ∷ record { table = files; input = inputOf 0 1; room = 72; reply = give Success (next 9 ++ recordFive) }
+    ∷ record { table = files; input = asking 0 1; room = 135; reply = give Success (next 9 ++ recordFive) }
+    ∷ record { table = files; input = asking 0 1; room = 72; reply = give Success (next 9 ++ recordFive) }
     -- not even that one, and not even the id
-    ∷ record { table = files; input = inputOf 0 1; room = 71; reply = refuse BufferTooSmall }
-    ∷ record { table = files; input = inputOf 0 1; room = 7; reply = refuse BufferTooSmall }
+    ∷ record { table = files; input = asking 0 1; room = 71; reply = refuse BufferTooSmall }
+    ∷ record { table = files; input = asking 0 1; room = 7; reply = refuse BufferTooSmall }
     -- from 5, from 6, from 10 on
-    ∷ record { table = files; input = inputOf 5 1; room = 72; reply = give Success (next 9 ++ recordFive) }
-    ∷ record { table = files; input = inputOf 6 1; room = 72; reply = give Success (next 10 ++ recordNine) }
-    ∷ record { table = files; input = inputOf 10 1; room = 136; reply = refuse EndOfFile }
+    ∷ record { table = files; input = asking 5 1; room = 72; reply = give Success (next 9 ++ recordFive) }
+    ∷ record { table = files; input = asking 6 1; room = 72; reply = give Success (next 10 ++ recordNine) }
+    ∷ record { table = files; input = asking 10 1; room = 136; reply = refuse EndOfFile }
     -- HighUsn 1023, and a negative one
-    ∷ record { table = files; input = inputOf 0 0; room = 136; reply = give Success (next 6 ++ recordFive) }
-    ∷ record { table = files; input = inputOf 0 128; room = 136; reply = refuse EndOfFile }
+    ∷ record { table = files; input = asking 0 0; room = 136; reply = give Success (next 6 ++ recordFive) }
+    ∷ record { table = files; input = asking 0 128; room = 136; reply = refuse EndOfFile }
     -- an id twice; a row that is not whole; an input that is too short
-    ∷ record { table = nine ++ (five ++ nine); input = inputOf 0 1; room = 136; reply = refuse FileCorruptError }
-    ∷ record { table = nine ++ (0 ∷ []); input = inputOf 0 1; room = 136; reply = refuse FileCorruptError }
+    ∷ record { table = nine ++ (five ++ nine); input = asking 0 1; room = 136; reply = refuse FileCorruptError }
+    ∷ record { table = nine ++ (0 ∷ []); input = asking 0 1; room = 136; reply = refuse FileCorruptError }
     ∷ record { table = files; input = 0 ∷ []; room = 136; reply = refuse InvalidParameter }
     ∷ []
 
 pub examples-right : map (λ (e : Example). record { table = e .table; input = e .input; room = e .room; reply = enumReply disk (e .table) pool (e .input) (e .room) }) examples ≡ examples
-unfolding le unle numberAt encode allZero goodUnit goodUnits goodName goodIn layout firstRows rows goodRow goodRows hasId distinct goodTable selects selected insert byId pageOf rowsBytes inputCheck enumCheck pageReply enumReply
+unfolding le unle numberAt encode allZero goodUnit goodUnits goodName goodIn layout firstRows rows goodRow goodRows hasId distinct rightTable selects selected insert byId pageOf rowsBytes inputCheck enumCheck pageReply enumReply
 examples-right = refl
 
 -- ---- following
@@ -148,8 +148,8 @@ turns =
     ∷ record { versions = 2 ∷ 0 ∷ 3 ∷ 0 ∷ 0 ∷ 0 ∷ 0 ∷ 0 ∷ []; room = 65536 }
     ∷ []
 
-files-good : goodTable pool files ≡ true
-unfolding unle numberAt allZero goodUnit goodUnits goodName goodIn firstRows rows goodRow goodRows hasId distinct goodTable
+files-good : rightTable pool files ≡ true
+unfolding unle numberAt allZero goodUnit goodUnits goodName goodIn firstRows rows goodRow goodRows hasId distinct rightTable
 files-good = refl
 
 all-sized : Sized all

@@ -29,7 +29,7 @@ use Rattle.record_writer.specs.Write.{copyReply}
 use Rattle.record_writer.proofs.Copying.{given-bytes}
 use Rattle.file_usn.specs.FileUsn.{currentFields}
 use Rattle.file_usn.proofs.Writing.{parts, are-name, parts-short}
-use Rattle.file_table.specs.Table.{Row, rows, rowName, goodRow, goodTable}
+use Rattle.file_table.specs.Table.{Row, rows, rowName, goodRow, rightTable}
 use Rattle.file_table.specs.Steps.{rowAt, idAt}
 use Rattle.file_table.proofs.Rows.{number-drop, run-bytes}
 use Rattle.file_table.proofs.Places.{table-whole, table-good, Right, right-row, row-member, row-good}
@@ -124,7 +124,7 @@ row-long v pool r =
 abbrev Joins : Version → List ℕ → Page → List ℕ → Page → Type 0
 Joins v pool whole bs more = (whole .next ≡ more .next) × (rowsBytes v pool (whole .given) ≡ bs ++ rowsBytes v pool (more .given))
 
-module _ (v : Version) (pool table o : List ℕ) (g : goodTable pool table ≡ true) (q : Query) where
+module _ (v : Version) (pool table o : List ℕ) (g : rightTable pool table ≡ true) (q : Query) where
   abbrev pageAt : ℕ → ℕ → Page
   pageAt room next = pageOf v pool room next (filesOf (startingAt q next) table)
 

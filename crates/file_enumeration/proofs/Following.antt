@@ -38,12 +38,12 @@ use Rattle.records.specs.Records.{Records, whole, recordList, joined}
 use Rattle.records.proofs.Runs.{AllSound}
 use Rattle.reply_walker.specs.Reply.{positionOf, recordsOf}
 use Rattle.reply_walker.proofs.Replies.{reply-read}
-use Rattle.file_table.specs.Table.{Row, rowIn, firstRows, rows, rowName, goodRow, goodRows, distinct, goodTable, rising}
+use Rattle.file_table.specs.Table.{Row, rowIn, firstRows, rows, rowName, goodRow, goodRows, distinct, rightTable, rising}
 use Rattle.file_table.proofs.Rising.{rising-below}
 use Rattle.file_table.proofs.Places.{table-distinct, Right, right-row}
 use Rattle.file_enumeration.specs.declared.Query.{Query}
 use Rattle.file_enumeration.specs.Enumerate.{queryIn, enumVersion, fromLow, toHigh, selects, selected, byId, filesOf, rowFields, rowBytes, rowLength, Page, pageOf, rowsBytes, isEmpty, inputCheck, enumCheck, pageReply, filesReply, enumReply, startingAt}
-use Rattle.file_enumeration.specs.Follow.{Turn, Ample, inputOf, Given, onward, follow, recordsIn, recordOf, Followed, Sized, Enumerates}
+use Rattle.file_enumeration.specs.Follow.{Turn, Ample, inputOf, Given, goesOn, follow, allRecords, recordOf, Followed, Sized, Enumerates}
 use Rattle.file_enumeration.proofs.Ordering.{files-rise, files-in, files-out, least-first, start-raised, listed}
 use Rattle.file_enumeration.proofs.Selecting.{selects-narrow, next-fits}
 
@@ -118,11 +118,11 @@ module _ (q : Query) (t : Turn) where
       ∙ ap (λ (k : Option Status). else k (unless (leb 8 (t .room)) BufferTooSmall)) (versions-back ∙ e)
       ∙ ap (λ (b : Bool). unless b BufferTooSmall) (le-leb 8 (t .room) (omega (arith, h)))
 
-  module _ (v : Volume) (table pool : List ℕ) (s : supported (v .journal) ≡ true) (g : goodTable pool table ≡ true) (z : Sized q) (e : versionsIn 8 0 (t .versions) ≡ none) (h : 600 ≤ t .room) where
+  module _ (v : Volume) (table pool : List ℕ) (s : supported (v .journal) ≡ true) (g : rightTable pool table ≡ true) (z : Sized q) (e : versionsIn 8 0 (t .versions) ≡ none) (h : 600 ≤ t .room) where
     turn-passes : enumCheck v table pool (inputOf q t) (t .room) ≡ none
     unfolding enumCheck
     turn-passes =
-        ap (λ (b : Bool). else (unless b InvalidDeviceRequest) (else (unless (goodTable pool table) FileCorruptError) (inputCheck (inputOf q t) (t .room)))) s
+        ap (λ (b : Bool). else (unless b InvalidDeviceRequest) (else (unless (rightTable pool table) FileCorruptError) (inputCheck (inputOf q t) (t .room)))) s
         ∙ ap (λ (b : Bool). else (unless b FileCorruptError) (inputCheck (inputOf q t) (t .room))) g
         ∙ input-passes e h
 
@@ -261,7 +261,7 @@ module _ (v : Volume) (table pool : List ℕ) where
   follow-end : (q : Query) (t : Turn) (ts : List Turn) (x : Status) → enumReply v table pool (inputOf q t) (t .room) ≡ refuse x
       → follow v table pool q (t ∷ ts) ≡ record { replies = []; refusal = some x }
   unfolding follow
-  follow-end q t ts x e = ap (λ (r : Reply). onward r (λ (bytes : List ℕ). follow v table pool (startingAt q (positionOf bytes)) ts)) e
+  follow-end q t ts x e = ap (λ (r : Reply). goesOn r (λ (bytes : List ℕ). follow v table pool (startingAt q (positionOf bytes)) ts)) e
 
   -- behind a reply it goes on
   follow-more : (q : Query) (t : Turn) (ts : List Turn) (x : Status) (s : List ℕ) (n : ℕ) → enumReply v table pool (inputOf q t) (t .room) ≡ give x s → positionOf s ≡ n
@@ -269,21 +269,21 @@ module _ (v : Volume) (table pool : List ℕ) where
       ≡ record { replies = s ∷ follow v table pool (startingAt q n) ts .replies; refusal = follow v table pool (startingAt q n) ts .refusal }
   unfolding follow
   follow-more q t ts x s n e p =
-      ap (λ (r : Reply). onward r (λ (bytes : List ℕ). follow v table pool (startingAt q (positionOf bytes)) ts)) e
+      ap (λ (r : Reply). goesOn r (λ (bytes : List ℕ). follow v table pool (startingAt q (positionOf bytes)) ts)) e
       ∙ ap (λ (m : ℕ). record { replies = s ∷ follow v table pool (startingAt q m) ts .replies; refusal = follow v table pool (startingAt q m) ts .refusal }) p
 
   -- what the replies and the refusal tell
   made : (q : Query) (ts : List Turn) (g : Given) → follow v table pool q ts ≡ g → g .refusal ≡ some EndOfFile → length (g .replies) ≤ length (filesOf q table)
-      → map (inVersion V3) (recordsIn (g .replies)) ≡ map (recordOf pool) (filesOf q table)
+      → map (inVersion V3) (allRecords (g .replies)) ≡ map (recordOf pool) (filesOf q table)
       → Followed v table pool q ts
   made q ts g e a b c =
       record {
         ended = ap (λ (x : Given). x .refusal) e ∙ a;
         calls = subst (λ (x : Given). length (x .replies) ≤ length (filesOf q table)) (sym e) b;
-        files = ap (λ (x : Given). map (inVersion V3) (recordsIn (x .replies))) e ∙ c;
+        files = ap (λ (x : Given). map (inVersion V3) (allRecords (x .replies))) e ∙ c;
       }
 
-  module _ (s : supported (v .journal) ≡ true) (g : goodTable pool table ≡ true) (b : Bytes table) where
+  module _ (s : supported (v .journal) ≡ true) (g : rightTable pool table ≡ true) (b : Bytes table) where
     right-file : (q : Query) (r : Row) → List·Memᴰ r (filesOf q table) → Right pool r × (selects q r ≡ true)
     right-file q r m = let k = files-out q (rows table) r m in (right-row pool table g b r (k .0), k .1)
 
@@ -336,7 +336,7 @@ module _ (v : Volume) (table pool : List ℕ) where
       step : (ts : List Turn) → Followed v table pool (startingAt q (page .next)) ts → Followed v table pool q (t ∷ ts)
       step ts f =
           let more = follow v table pool (startingAt q (page .next)) ts in
-          let all : List Record = recordsIn (more .replies) in
+          let all : List Record = allRecords (more .replies) in
           let c : length (more .replies) ≤ length (cut .rest) = subst (λ (y : List Row). length (more .replies) ≤ length y) rest-files (f .calls) in
           let d : map (inVersion V3) all ≡ map (recordOf pool) (cut .rest) = f .files ∙ ap (map (recordOf pool)) rest-files in
           made q (t ∷ ts) (record { replies = bytes ∷ more .replies; refusal = more .refusal }) (follow-more q t ts Success bytes (page .next) replied (read .1)) (f .ended)

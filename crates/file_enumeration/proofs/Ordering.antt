@@ -10,7 +10,7 @@ use lib.Dec.{leb, ltb, eqb}
 use borrow.Author.Tests.{ltb-false, leb-true, eqb-true, eqb-false, lt-ltb, le-leb}
 use Rattle.le.proofs.Runs.{and-left, and-right}
 use Rattle.file_ids.specs.Ids.{wide, idNumber}
-use Rattle.file_table.specs.Table.{Row, rows, distinct, goodTable, above, rising}
+use Rattle.file_table.specs.Table.{Row, rows, distinct, rightTable, above, rising}
 use Rattle.file_table.proofs.Rising.{key, false-true, both-true, first-once, distinct-rest, same-row, rising-rest, rising-first, rising-made, rising-below, above-all, same-rising}
 use Rattle.file_table.proofs.Places.{table-distinct}
 use Rattle.file_enumeration.specs.declared.Query.{Query}
@@ -165,7 +165,7 @@ files-rise q (x ∷ xs) d = go (selects q x) (files-rise q xs (distinct-rest x x
     go false ih = ih
 
 -- of a table that is right: the selected rows, by rising id
-pub listed : (q : Query) (pool table : List ℕ) → goodTable pool table ≡ true → Listed q table
+pub listed : (q : Query) (pool table : List ℕ) → rightTable pool table ≡ true → Listed q table
 listed q pool table g =
     record {
       members = λ r. (files-out q (rows table) r, λ k. files-in q (rows table) r (k .0) (k .1));

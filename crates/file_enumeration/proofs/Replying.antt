@@ -19,7 +19,7 @@ use Rattle.status.specs.Reply.{refuse, guard, answer, Replied}
 use Rattle.status.proofs.Checking.{else-left, else-right, unless-true}
 use Rattle.volume.specs.declared.Volume.{Volume}
 use Rattle.usn_record.specs.declared.Version.{Version}
-use Rattle.file_table.specs.Table.{Row, goodTable}
+use Rattle.file_table.specs.Table.{Row, rightTable}
 use Rattle.file_enumeration.specs.declared.Sent.{Sent}
 use Rattle.file_enumeration.specs.Enumerate.{queryIn, enumVersions, enumVersion, rowBytes, Page, rowsBytes, isEmpty, inputCheck, enumCheck, pageReply, filesReply, enumReply}
 use Rattle.file_enumeration.specs.Steps.{Sends}
@@ -94,10 +94,10 @@ module _ (v : Volume) (table pool input : List ℕ) (room : ℕ) where
   without-support e = rw (eq-eqb (v .journal) 0 e)
 
   module _ (n : v .journal ≡ 0 → ⊥) where
-    pub bad-table : goodTable pool table ≡ false → enumReply v table pool input room ≡ refuse FileCorruptError
+    pub bad-table : rightTable pool table ≡ false → enumReply v table pool input room ≡ refuse FileCorruptError
     unfolding enumReply enumCheck
     bad-table g = rw (ne-eqb (v .journal) 0 n, g)
 
-    pub good-reply : goodTable pool table ≡ true → enumReply v table pool input room ≡ guard (inputCheck input room) (filesReply (enumVersion input) pool (queryIn input) table room)
+    pub good-reply : rightTable pool table ≡ true → enumReply v table pool input room ≡ guard (inputCheck input room) (filesReply (enumVersion input) pool (queryIn input) table room)
     unfolding enumReply enumCheck
     good-reply g = rw (ne-eqb (v .journal) 0 n, g)

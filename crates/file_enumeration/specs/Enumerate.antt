@@ -18,7 +18,7 @@ use Rattle.usn_record.specs.declared.Fields.{Fields}
 use Rattle.usn_record.specs.Version.{versionsIn, versionIn}
 use Rattle.usn_record.specs.Layout.{recordLength, layout}
 use Rattle.file_usn.specs.FileUsn.{currentFields}
-use Rattle.file_table.specs.Table.{Row, rows, rowName, goodTable}
+use Rattle.file_table.specs.Table.{Row, rows, rowName, rightTable}
 use Rattle.file_enumeration.specs.declared.Query.{Query}
 
 -- ---- the input
@@ -114,7 +114,7 @@ inputCheck input room = else (unless (leb 24 (length input)) InvalidParameter) (
 -- support; the table, all of it; the input
 unfoldable pub enumCheck : Volume → List ℕ → List ℕ → List ℕ → ℕ → Option Status
 enumCheck v table pool input room =
-    else (unless (supported (v .journal)) InvalidDeviceRequest) (else (unless (goodTable pool table) FileCorruptError) (inputCheck input room))
+    else (unless (supported (v .journal)) InvalidDeviceRequest) (else (unless (rightTable pool table) FileCorruptError) (inputCheck input room))
 
 -- nothing is selected, or the first file does not fit; else the id to go on from, and the records
 unfoldable pub pageReply : Version → List ℕ → List Row → Page → Reply

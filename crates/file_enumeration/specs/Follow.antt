@@ -19,7 +19,7 @@ use Rattle.usn_record.specs.Layout.{shown, Record, inVersion}
 use Rattle.records.specs.Records.{recordList}
 use Rattle.reply_walker.specs.Reply.{positionOf, recordsOf}
 use Rattle.file_usn.specs.FileUsn.{currentFields}
-use Rattle.file_table.specs.Table.{Row, rows, rowName, goodTable, rising}
+use Rattle.file_table.specs.Table.{Row, rows, rowName, rightTable, rising}
 use Rattle.file_enumeration.specs.declared.Query.{Query}
 use Rattle.file_enumeration.specs.Enumerate.{selects, filesOf, enumReply, startingAt}
 
@@ -32,7 +32,7 @@ pub record Listed (q : Query) (table : List ℕ) : Type 0 where
 
 -- ---- following
 
--- one call: what its input holds behind start, Low and High, and the bytes of its output
+-- one call: what its input holds behind start, Low and High, and how many bytes its output has
 pub record Turn : Type 0 where
   pub versions : List ℕ
   pub room : ℕ
@@ -52,22 +52,22 @@ pub record Given : Type 0 where
   pub refusal : Option Status
 
 -- a refusal ends it; behind a reply it goes on
-abbrev pub onward : Reply → (List ℕ → Given) → Given
-onward (refuse x) more = record { replies = []; refusal = some x }
-onward (give x bytes) more = record { replies = bytes ∷ more bytes .replies; refusal = more bytes .refusal }
+abbrev pub goesOn : Reply → (List ℕ → Given) → Given
+goesOn (refuse x) more = record { replies = []; refusal = some x }
+goesOn (give x bytes) more = record { replies = bytes ∷ more bytes .replies; refusal = more bytes .refusal }
 
 -- each call starts at the u64 of the reply before
 unfoldable pub follow : Volume → List ℕ → List ℕ → Query → List Turn → Given
 follow v table pool q [] = record { replies = []; refusal = none }
 follow v table pool q (t ∷ ts) =
-    onward (enumReply v table pool (inputOf q t) (t .room)) (λ (bytes : List ℕ). follow v table pool (startingAt q (positionOf bytes)) ts)
+    goesOn (enumReply v table pool (inputOf q t) (t .room)) (λ (bytes : List ℕ). follow v table pool (startingAt q (positionOf bytes)) ts)
 
 -- ---- what it comes to
 
 -- the records that a caller reads in replies, each walked as a reply of the journal is
-abbrev pub recordsIn : List (List ℕ) → List Record
-recordsIn [] = []
-recordsIn (s ∷ ss) = recordList (recordsOf s) ++ recordsIn ss
+abbrev pub allRecords : List (List ℕ) → List Record
+allRecords [] = []
+allRecords (s ∷ ss) = recordList (recordsOf s) ++ allRecords ss
 
 -- the record of a file as it is read, in version 3: attributes 0 are 0x80
 abbrev pub recordOf : List ℕ → Row → Record
@@ -76,10 +76,10 @@ recordOf pool r = record { version = V3; fields = currentFields (r .id) (r .pare
 pub record Followed (v : Volume) (table pool : List ℕ) (q : Query) (ts : List Turn) : Type 0 where
   -- it ends with END_OF_FILE
   pub ended : follow v table pool q ts .refusal ≡ some EndOfFile
-  -- after at most as many replies as there are files: that call is one more
+  -- after at most as many replies as there are files, so by one call more at the most
   pub calls : length (follow v table pool q ts .replies) ≤ length (filesOf q table)
   -- each selected file was given once, in order
-  pub files : map (inVersion V3) (recordsIn (follow v table pool q ts .replies)) ≡ map (recordOf pool) (filesOf q table)
+  pub files : map (inVersion V3) (allRecords (follow v table pool q ts .replies)) ≡ map (recordOf pool) (filesOf q table)
 
 -- ---- the promise
 
@@ -90,9 +90,9 @@ pub record Sized (q : Query) : Type 0 where
   pub high : q .high < 2 ^ 64
 
 pub record Enumerates : Type 0 where
-  pub listed : (q : Query) (pool table : List ℕ) → goodTable pool table ≡ true → Listed q table
+  pub listed : (q : Query) (pool table : List ℕ) → rightTable pool table ≡ true → Listed q table
   -- over one table, with more turns than files
-  pub followed : (v : Volume) (table pool : List ℕ) (q : Query) (ts : List Turn) → supported (v .journal) ≡ true → goodTable pool table ≡ true → Bytes table → Sized q
+  pub followed : (v : Volume) (table pool : List ℕ) (q : Query) (ts : List Turn) → supported (v .journal) ≡ true → rightTable pool table ≡ true → Bytes table → Sized q
       → Ample ts
       → length (filesOf q table) < length ts
       → Followed v table pool q ts

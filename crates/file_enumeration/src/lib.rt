@@ -5,7 +5,7 @@ ghost use Prim.Native.Nat.{_+_, _-_, _%_, _≤_, _<_};
 ghost use lib.ListN.{length, drop};
 ghost use Rattle.status.specs.Reply.{Replied, guard};
 ghost use Rattle.usn_record.specs.Version.{chosen};
-ghost use Rattle.file_table.specs.Table.{rows, goodRow, distinct, goodTable, rising};
+ghost use Rattle.file_table.specs.Table.{rows, goodRow, distinct, rightTable, rising};
 ghost use Rattle.file_table.specs.Steps.{rowAt};
 ghost use Rattle.file_enumeration.specs.Enumerate.{queryIn, enumVersion, fromLow, toHigh, selects, filesOf, pageOf, inputCheck, filesReply, enumReply};
 ghost use Rattle.file_enumeration.specs.Steps.{Leads, Ahead, lowerOf, Gives, Sends};
@@ -177,7 +177,7 @@ fn fill(
     q: Query,
     v: Version,
 ) -> Sent
-    requires { ⌜ (goodTable (now pool) (now table) ≡ true) × (ordered ≡ true → rising (rows (now table)) ≡ true) × (Leads q (now table) first) ⌝ }
+    requires { ⌜ (rightTable (now pool) (now table) ≡ true) × (ordered ≡ true → rising (rows (now table)) ≡ true) × (Leads q (now table) first) ⌝ }
     ensures { λ r. ⌜ Sends v (now (pool .entry)) (pageOf v (now (pool .entry)) (length (now (out .entry))) (q .start) (filesOf q (now (table .entry)))) (now (out .entry)) r (now (out .exit)) ⌝ }
 {
     let low = q.low;
@@ -234,7 +234,7 @@ fn give_files(
     q: Query,
     v: Version,
 ) -> Answer
-    requires { ⌜ (8 ≤ length (now output)) × (goodTable (now pool) (now table) ≡ true) × (ordered ≡ true → rising (rows (now table)) ≡ true) ⌝ }
+    requires { ⌜ (8 ≤ length (now output)) × (rightTable (now pool) (now table) ≡ true) × (ordered ≡ true → rising (rows (now table)) ≡ true) ⌝ }
     ensures { λ r. ⌜ Replied (filesReply v (now (pool .entry)) q (now (table .entry)) (length (now (output .entry)))) r (now (output .entry)) (now (output .exit)) ⌝ }
 {
     let first = first_file(table, ordered, 0, q);
@@ -257,7 +257,7 @@ fn enumerate_judged(
     input: &[u8],
     output: &mut [u8],
 ) -> Answer
-    requires { ⌜ (goodTable (now pool) (now table) ≡ true) × (ordered ≡ true → rising (rows (now table)) ≡ true) ⌝ }
+    requires { ⌜ (rightTable (now pool) (now table) ≡ true) × (ordered ≡ true → rising (rows (now table)) ≡ true) ⌝ }
     ensures { λ r. ⌜ Replied (guard (inputCheck (now (input .entry)) (length (now (output .entry)))) (filesReply (enumVersion (now (input .entry))) (now (pool .entry)) (queryIn (now (input .entry))) (now (table .entry)) (length (now (output .entry))))) r (now (output .entry)) (now (output .exit)) ⌝ }
 {
     let choice = judge_input(input, output.len());

@@ -16,7 +16,7 @@ use Rattle.file_ids.specs.Ids.{idNumber}
 use Rattle.names.specs.Names.{goodIn}
 use Rattle.file_table.specs.declared.Order.{Order}
 use Rattle.file_table.specs.declared.Order.the-variants.{Rising, Mixed, Bad}
-use Rattle.file_table.specs.Table.{Row, rows, goodRow, goodRows, hasId, distinct, goodTable, above, rising, orderOf}
+use Rattle.file_table.specs.Table.{Row, rows, goodRow, goodRows, hasId, distinct, rightTable, above, rising, orderOf}
 use Rattle.file_table.specs.Steps.{rowAt, idAt}
 use Rattle.file_table.proofs.Rows.{rows-end, rows-next, number-drop, halves}
 use Rattle.file_table.proofs.Rising.{rising-distinct}
@@ -129,47 +129,47 @@ module _ (s : List ℕ) (at : ℕ) where
 
 module _ (pool s : List ℕ) where
   pub uneven : (length s % 56 ≡ 0 → ⊥) → Bad ≡ orderOf pool s
-  unfolding goodTable
+  unfolding rightTable
   uneven n = rw (ne-eqb (length s % 56) 0 n)
 
   module _ (e : length s % 56 ≡ 0) where
     pub row-bad : goodRows pool (rows s) ≡ false → Bad ≡ orderOf pool s
-    unfolding goodTable
+    unfolding rightTable
     row-bad g = rw (eq-eqb (length s % 56) 0 e, g)
 
     module _ (g : goodRows pool (rows s) ≡ true) where
       pub in-order : rising (rows s) ≡ true → Rising ≡ orderOf pool s
-      unfolding goodTable
+      unfolding rightTable
       in-order r = rw (eq-eqb (length s % 56) 0 e, g, rising-distinct (rows s) r, r)
 
       pub twins-bad : distinct (rows s) ≡ false → Bad ≡ orderOf pool s
-      unfolding goodTable
+      unfolding rightTable
       twins-bad d = rw (eq-eqb (length s % 56) 0 e, g, d)
 
       pub mixed : rising (rows s) ≡ false → distinct (rows s) ≡ true → Mixed ≡ orderOf pool s
-      unfolding goodTable
+      unfolding rightTable
       mixed r d = rw (eq-eqb (length s % 56) 0 e, g, d, r)
 
   -- what the order tells
-  pub told-bad : Bad ≡ orderOf pool s → goodTable pool s ≡ false
-  told-bad e = by (goodTable pool s) (rising (rows s)) refl e
+  pub told-bad : Bad ≡ orderOf pool s → rightTable pool s ≡ false
+  told-bad e = by (rightTable pool s) (rising (rows s)) refl e
     where
-      by : (g r : Bool) → goodTable pool s ≡ g → Bad ≡ cond g (cond r Rising Mixed) Bad → goodTable pool s ≡ false
+      by : (g r : Bool) → rightTable pool s ≡ g → Bad ≡ cond g (cond r Rising Mixed) Bad → rightTable pool s ≡ false
       by false r t e = t
       by true true t e = let z : _≡_ {A = ℕ} 0 1 = cc in absurd (omega arith)
       by true false t e = let z : _≡_ {A = ℕ} 0 1 = cc in absurd (omega arith)
 
-  pub told-rising : Rising ≡ orderOf pool s → (goodTable pool s ≡ true) × (rising (rows s) ≡ true)
-  told-rising e = by (goodTable pool s) (rising (rows s)) refl refl e
+  pub told-rising : Rising ≡ orderOf pool s → (rightTable pool s ≡ true) × (rising (rows s) ≡ true)
+  told-rising e = by (rightTable pool s) (rising (rows s)) refl refl e
     where
-      by : (g r : Bool) → goodTable pool s ≡ g → rising (rows s) ≡ r → Rising ≡ cond g (cond r Rising Mixed) Bad → (goodTable pool s ≡ true) × (rising (rows s) ≡ true)
+      by : (g r : Bool) → rightTable pool s ≡ g → rising (rows s) ≡ r → Rising ≡ cond g (cond r Rising Mixed) Bad → (rightTable pool s ≡ true) × (rising (rows s) ≡ true)
       by true true t u e = (t, u)
       by true false t u e = let z : _≡_ {A = ℕ} 0 1 = cc in absurd (omega arith)
       by false r t u e = let z : _≡_ {A = ℕ} 0 1 = cc in absurd (omega arith)
 
-  pub told-mixed : Mixed ≡ orderOf pool s → goodTable pool s ≡ true
-  told-mixed e = by (goodTable pool s) (rising (rows s)) refl e
+  pub told-mixed : Mixed ≡ orderOf pool s → rightTable pool s ≡ true
+  told-mixed e = by (rightTable pool s) (rising (rows s)) refl e
     where
-      by : (g r : Bool) → goodTable pool s ≡ g → Mixed ≡ cond g (cond r Rising Mixed) Bad → goodTable pool s ≡ true
+      by : (g r : Bool) → rightTable pool s ≡ g → Mixed ≡ cond g (cond r Rising Mixed) Bad → rightTable pool s ≡ true
       by true r t e = t
       by false r t e = let z : _≡_ {A = ℕ} 0 1 = cc in absurd (omega arith)

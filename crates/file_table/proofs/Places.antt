@@ -17,19 +17,19 @@ use Rattle.le.proofs.Runs.{and-left, and-right}
 use Rattle.names.specs.Names.{goodName, goodIn}
 use Rattle.names.proofs.Names.{in-named}
 use Rattle.file_ids.specs.Ids.{Id, idNumber}
-use Rattle.file_table.specs.Table.{Row, rowIn, firstRows, rows, rowName, goodRow, goodRows, distinct, goodTable}
+use Rattle.file_table.specs.Table.{Row, rowIn, firstRows, rows, rowName, goodRow, goodRows, distinct, rightTable}
 use Rattle.file_table.specs.Steps.{rowAt}
 use Rattle.file_table.proofs.Rows.{rows-some, rows-next}
 
 -- ---- what a table that is right tells
 
-module _ (pool table : List ℕ) (g : goodTable pool table ≡ true) where
+module _ (pool table : List ℕ) (g : rightTable pool table ≡ true) where
   pub table-whole : length table % 56 ≡ 0
-  unfolding goodTable
+  unfolding rightTable
   table-whole = eqb-true (length table % 56) 0 (and-left (eqb (length table % 56) 0) (goodRows pool (rows table) && distinct (rows table)) g)
 
   rest : goodRows pool (rows table) && distinct (rows table) ≡ true
-  unfolding goodTable
+  unfolding rightTable
   rest = and-right (eqb (length table % 56) 0) (goodRows pool (rows table) && distinct (rows table)) g
 
   pub table-good : goodRows pool (rows table) ≡ true
@@ -78,7 +78,7 @@ typed-member (suc n) s h b r m = go (List·Memᴰ·cases-cons m) (typed-member n
     go (inl p) ih = subst Typed (sym p) (typed-row s (omega arith) b)
     go (inr p) ih = ih p
 
-pub right-row : (pool table : List ℕ) → goodTable pool table ≡ true → Bytes table → (r : Row) → List·Memᴰ r (rows table) → Right pool r
+pub right-row : (pool table : List ℕ) → rightTable pool table ≡ true → Bytes table → (r : Row) → List·Memᴰ r (rows table) → Right pool r
 unfolding rows goodRow
 right-row pool table g b r m =
     let t = typed-member (length table / 56) table (omega arith) b r m in

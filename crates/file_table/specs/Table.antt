@@ -67,8 +67,8 @@ distinct [] = true
 distinct (r ∷ rs) = not (hasId (idNumber (r .id)) rs) && distinct rs
 
 -- whole rows, each of them good, and no id twice
-unfoldable pub goodTable : List ℕ → List ℕ → Bool
-goodTable pool s = eqb (length s % 56) 0 && (goodRows pool (rows s) && distinct (rows s))
+unfoldable pub rightTable : List ℕ → List ℕ → Bool
+rightTable pool s = eqb (length s % 56) 0 && (goodRows pool (rows s) && distinct (rows s))
 
 -- ---- its order
 
@@ -84,4 +84,4 @@ rising (r ∷ rs) = above (idNumber (r .id)) rs && rising rs
 
 -- what a table is: right and by rising id, right and in another order, or not right
 abbrev pub orderOf : List ℕ → List ℕ → Order
-orderOf pool s = cond (goodTable pool s) (cond (rising (rows s)) Rising Mixed) Bad
+orderOf pool s = cond (rightTable pool s) (cond (rising (rows s)) Rising Mixed) Bad

@@ -6,7 +6,7 @@ use Prim.Native.Nat.{ℕ, suc, _+_, _-_, _%_, _^_, _≤_, _<_}
 use native.Mathlib.Omega.{arith}
 use lib.ListN.{length}
 use Rattle.le.specs.Bytes.{Bytes}
-use Rattle.file_table.specs.Table.{goodTable}
+use Rattle.file_table.specs.Table.{rightTable}
 use Rattle.file_table.specs.Steps.{idAt}
 use Rattle.file_table.proofs.Places.{table-whole, table-distinct}
 use Rattle.file_enumeration.specs.declared.Query.{Query}
@@ -20,7 +20,7 @@ use Rattle.file_enumeration.proofs.fill.Tie as tie
 -- the table is right, and the page so far
 abbrev Inv-loop : tie.InvT-loop
 Inv-loop out₀ pool table ordered first v low high next₀ at₀ done₀ out next at done =
-    (g : goodTable pool table ≡ true) × Filled v pool table out₀ g (record { start = next₀; low = low; high = high }) out next at done
+    (g : rightTable pool table ≡ true) × Filled v pool table out₀ g (record { start = next₀; low = low; high = high }) out next at done
 
 abbrev μ-loop : tie.MeasureT-loop
 μ-loop out₀ pool table ordered first v low high next₀ at₀ done₀ out next at done = length out₀ - done
