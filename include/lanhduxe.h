@@ -373,7 +373,8 @@ usn_answer usn_move_image(const uint8_t *image, size_t image_size, uint32_t from
 
 /*
  * Gives a USN record of the file as it is now (FSCTL_READ_FILE_USN_DATA). `parent` is that of the open's own link; the name is that
- * of the first link with a short name; with no such link, of the first whose name is not empty; else an empty one.
+ * of the first link with a short name; with no such link, of the first whose name is not empty; else an empty one. Time, reason, source and
+ * security of the record are 0: it says what the file is, not what happened to it.
  * Input: the lowest and highest version, u16 each; below 4 bytes the version is 2.
  * INVALID_DEVICE_REQUEST without support; FILE_CORRUPT_ERROR for a negative Usn or a bad link; INVALID_PARAMETER for the versions;
  * BUFFER_TOO_SMALL below 64 bytes of output (version 3: 80); NOT_SUPPORTED in version 2 if the file's id or `parent` is wide;
@@ -449,7 +450,7 @@ uint32_t usn_delete_reparse_point(usn_volume *volume, uint8_t *ring, size_t ring
 /* What an enumeration asks for: files from an id on, with a Usn from low to high. */
 typedef struct usn_enum_input {
     uint64_t start;   /* an id, the last reply's; 0 for all */
-    uint64_t low;     /* the lowest Usn, 0 for all; 2^63 and above is negative */
+    uint64_t low;     /* the lowest Usn, 0 for all; 2^63 and above is negative, and selects what 0 does */
     uint64_t high;    /* the highest Usn, INT64_MAX for all; 2^63 and above is negative, and selects nothing */
     uint16_t lowest;  /* the versions */
     uint16_t highest;
@@ -477,7 +478,7 @@ usn_answer usn_enumerate_rows(usn_volume volume, const uint8_t *table, size_t ta
 
 /*
  * Gives USN records of the files of a table as they are now, by rising id (FSCTL_ENUM_USN_DATA): an id of 8 bytes, then the records of
- * the selected files, each as usn_read_file gives one, with the name of its row, up to the first that does not fit. Selected is a file
+ * the selected files, each as usn_read_file gives one (time and reason 0), with the name of its row, up to the first that does not fit. Selected is a file
  * with an id that is the start or above and a Usn from LowUsn to HighUsn, both ends in, where neither its id nor its parent's is wide.
  * The id in front is that of the first selected file that did not fit, or else that of the last one given plus 1. A caller returns with
  * it as its next start, and with USN_READ_ROOM bytes of output or more, over a table that does not change, comes to every selected file

@@ -165,9 +165,22 @@ uint64_t journal_id(void)
     return volume.id;
 }
 
+/* The next so many replies are cut on their way. */
+static int cuts;
+
+static usn_answer carry(usn_answer answer)
+{
+    if (answer.status == USN_SUCCESS && cuts > 0) {
+        answer.count = 7;
+        cuts--;
+        printf("  a reply is cut\n");
+    }
+    return answer;
+}
+
 usn_answer ask(const uint8_t *input, size_t input_size, uint8_t *reply, size_t reply_size)
 {
-    return usn_read_journal(volume, ring, sizeof ring, input, input_size, reply, reply_size);
+    return carry(usn_read_journal(volume, ring, sizeof ring, input, input_size, reply, reply_size));
 }
 
 /* The files that the service knows, and whether each was met since its list began. */
@@ -197,9 +210,17 @@ void act_on(const usn_record *record, const uint8_t *name)
         known[i] = known[--knows];
 }
 
+/* Behind this many pages a file is posted. */
+static int pages_to_post;
+
+/* The server gives two files in a page. */
 usn_answer ask_files(const uint8_t *input, size_t input_size, uint8_t *reply, size_t reply_size)
 {
-    return usn_enumerate_files(volume, table, files, pool, sizeof pool, input, input_size, reply, reply_size);
+    want(reply_size >= 200, "room for a page");
+    usn_answer answer = usn_enumerate_files(volume, table, files, pool, sizeof pool, input, input_size, reply, 200);
+    if (answer.status == USN_SUCCESS && --pages_to_post == 0)
+        post(45, 1);
+    return carry(answer);
 }
 
 void list_begins(void)
@@ -239,6 +260,8 @@ int main(void)
     expect(begin(&service));
 
     post(41, 2);
+    cuts = 1;
+    want(follow(&service) == DAMAGED, "a damaged reply"); /* the next turn asks again */
     expect(follow(&service));
 
     delete_first();
@@ -255,11 +278,11 @@ int main(void)
     restart();
     expect(follow(&service));
 
-    post(45, 1);
     int file = openat(folder, "journal", O_WRONLY);
     want(file >= 0 && ftruncate(file, 100) == 0 && close(file) == 0, "journal");
     printf("cut the image\n");
     restart();
+    pages_to_post = 1;
     expect(follow(&service));
 
     fill_ring();

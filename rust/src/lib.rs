@@ -1071,8 +1071,8 @@ impl Volume {
     /// file once, and then to [`Status::EndOfFile`]. The journal's state does not
     /// matter.
     ///
-    /// Refusals, in order: [`Status::InvalidDeviceRequest`] without a journal on
-    /// the volume; [`Status::FileCorruptError`] for a bad row, selected or not: a
+    /// Refusals, in order: [`Status::InvalidDeviceRequest`] if the volume does not
+    /// support the journal; [`Status::FileCorruptError`] for a bad row, selected or not: a
     /// bad name, a negative Usn, the id 2^64 - 1 or an id that stands twice;
     /// [`Status::InvalidParameter`] below 24 bytes of input, then for the
     /// versions; [`Status::BufferTooSmall`] below 8 bytes of output;

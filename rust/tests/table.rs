@@ -155,7 +155,7 @@ fn good_table(rng: &mut Rng, count: usize, order: Order) -> (Vec<Entry>, Vec<u8>
     (table, pool)
 }
 
-/// Makes one row of a table bad, or the bytes of its name.
+/// Makes one row of a table bad, or the bytes of its name; now and then it stays good.
 fn damage(rng: &mut Rng, table: &mut [Entry], pool: &mut [u8]) {
     let count = table.len() as u64;
     if count == 0 {
@@ -491,7 +491,7 @@ fn a_call_for_each_file_and_one_at_the_end() {
     }
 }
 
-// ---- A small table, whose names have 0, 2, 6 and 4 bytes, and its reply.
+// ---- A small table, whose names have 0, 2, 6, 4 and 2 bytes, and its reply.
 
 const POOL: &[u8] = b"a\0b\0c\0d\0";
 
@@ -940,15 +940,16 @@ fn units_of_names() {
 // ---- Ids that stand twice.
 
 /// Tables of so many rows with different ids, of which each second one is wide where
-/// that is asked for, in three orders.
+/// that is asked for: by rising id, by falling id, and from three rows on in another order.
 fn distinct(count: usize, wide: bool) -> [Vec<Entry>; 3] {
     let id = |number: usize| match wide && number % 2 == 1 {
         true => (10 + number as u128) | 7 << 64,
         false => 10 + number as u128,
     };
-    let rising: Vec<Entry> = (0..count)
+    let mut rising: Vec<Entry> = (0..count)
         .map(|number| entry(id(number), 8, 0, 2))
         .collect();
+    rising.sort_by_key(|file| file.id.number());
     let falling: Vec<Entry> = rising.iter().rev().copied().collect();
     let mut mixed = rising.clone();
     mixed.rotate_left(count / 2);

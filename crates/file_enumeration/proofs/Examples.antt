@@ -74,6 +74,13 @@ asking start top =
     ∷ 0 ∷ 0 ∷ 0 ∷ 0 ∷ 0 ∷ 0 ∷ 0 ∷ 0
     ∷ 255 ∷ 3 ∷ 0 ∷ 0 ∷ 0 ∷ 0 ∷ 0 ∷ top ∷ []
 
+-- the start 0, the lowest and the highest byte of LowUsn, the same HighUsn as with 1 above
+abbrev pub askingFrom : ℕ → ℕ → List ℕ
+askingFrom low top =
+    0 ∷ 0 ∷ 0 ∷ 0 ∷ 0 ∷ 0 ∷ 0 ∷ 0
+    ∷ low ∷ 0 ∷ 0 ∷ 0 ∷ 0 ∷ 0 ∷ 0 ∷ top
+    ∷ 255 ∷ 3 ∷ 0 ∷ 0 ∷ 0 ∷ 0 ∷ 0 ∷ 1 ∷ []
+
 -- RecordLength 64, version 2.0, file 5, parent 5, Usn 80, four times 0, attributes 128, a name of 4 bytes at 60
 abbrev pub recordFive : List ℕ
 recordFive =
@@ -97,6 +104,20 @@ recordNine =
     ∷ 0 ∷ 0 ∷ 0 ∷ 0 ∷ 0 ∷ 0 ∷ 0 ∷ 0
     ∷ 0 ∷ 0 ∷ 0 ∷ 0 ∷ 32 ∷ 0 ∷ 0 ∷ 0
     ∷ 2 ∷ 0 ∷ 60 ∷ 0 ∷ 97 ∷ 0 ∷ 0 ∷ 0 ∷ []
+
+-- RecordLength 80, version 3.0, file 9, parent 5, Usn 1024, four times 0, attributes 32, a name of 2 bytes at 76, two zeroes
+abbrev pub newerNine : List ℕ
+newerNine =
+    80 ∷ 0 ∷ 0 ∷ 0 ∷ 3 ∷ 0 ∷ 0 ∷ 0
+    ∷ 9 ∷ 0 ∷ 0 ∷ 0 ∷ 0 ∷ 0 ∷ 0 ∷ 0
+    ∷ 0 ∷ 0 ∷ 0 ∷ 0 ∷ 0 ∷ 0 ∷ 0 ∷ 0
+    ∷ 5 ∷ 0 ∷ 0 ∷ 0 ∷ 0 ∷ 0 ∷ 0 ∷ 0
+    ∷ 0 ∷ 0 ∷ 0 ∷ 0 ∷ 0 ∷ 0 ∷ 0 ∷ 0
+    ∷ 0 ∷ 4 ∷ 0 ∷ 0 ∷ 0 ∷ 0 ∷ 0 ∷ 0
+    ∷ 0 ∷ 0 ∷ 0 ∷ 0 ∷ 0 ∷ 0 ∷ 0 ∷ 0
+    ∷ 0 ∷ 0 ∷ 0 ∷ 0 ∷ 0 ∷ 0 ∷ 0 ∷ 0
+    ∷ 0 ∷ 0 ∷ 0 ∷ 0 ∷ 32 ∷ 0 ∷ 0 ∷ 0
+    ∷ 2 ∷ 0 ∷ 76 ∷ 0 ∷ 97 ∷ 0 ∷ 0 ∷ 0 ∷ []
 
 -- the id to go on from
 abbrev pub next : ℕ → List ℕ
@@ -124,6 +145,13 @@ examples =
     -- HighUsn 1023, and a negative one
     ∷ record { table = files; input = asking 0 0; room = 136; reply = give Success (next 6 ++ recordFive) }
     ∷ record { table = files; input = asking 0 128; room = 136; reply = refuse EndOfFile }
+    -- LowUsn 80 and 81, and a negative one
+    ∷ record { table = files; input = askingFrom 80 0; room = 136; reply = give Success (next 10 ++ (recordFive ++ recordNine)) }
+    ∷ record { table = files; input = askingFrom 81 0; room = 136; reply = give Success (next 10 ++ recordNine) }
+    ∷ record { table = files; input = askingFrom 81 128; room = 136; reply = give Success (next 10 ++ (recordFive ++ recordNine)) }
+    -- versions 2 to 3, and 3 to 2
+    ∷ record { table = files; input = askingFrom 81 0 ++ (2 ∷ 0 ∷ 3 ∷ 0 ∷ 0 ∷ 0 ∷ 0 ∷ 0 ∷ []); room = 88; reply = give Success (next 10 ++ newerNine) }
+    ∷ record { table = files; input = askingFrom 81 0 ++ (3 ∷ 0 ∷ 2 ∷ 0 ∷ 0 ∷ 0 ∷ 0 ∷ 0 ∷ []); room = 88; reply = refuse InvalidParameter }
     -- an id twice; a row that is not whole; an input that is too short
     ∷ record { table = nine ++ (five ++ nine); input = asking 0 1; room = 136; reply = refuse FileCorruptError }
     ∷ record { table = nine ++ (0 ∷ []); input = asking 0 1; room = 136; reply = refuse FileCorruptError }

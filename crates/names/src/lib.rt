@@ -104,7 +104,7 @@ pub fn good_in(pool: &[u8], place: u64, length: u32) -> bool
     if pool.len() < n {
         return false;
     }
-    // the end of a name could lie past any number, the last place for one does not
+    // place and length together may overflow; the pool's length less the name's does not
     if pool.len() - n < place as usize {
         return false;
     }
