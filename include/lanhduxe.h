@@ -478,11 +478,12 @@ usn_answer usn_enumerate_rows(usn_volume volume, const uint8_t *table, size_t ta
 
 /*
  * Gives USN records of the files of a table as they are now, by rising id (FSCTL_ENUM_USN_DATA): an id of 8 bytes, then the records of
- * the selected files, each as usn_read_file gives one (time and reason 0), with the name of its row, up to the first that does not fit. Selected is a file
- * with an id that is the start or above and a Usn from LowUsn to HighUsn, both ends in, where neither its id nor its parent's is wide.
- * The id in front is that of the first selected file that did not fit, or else that of the last one given plus 1. A caller returns with
- * it as its next start, and with USN_READ_ROOM bytes of output or more, over a table that does not change, comes to every selected file
- * once, in order, and then to END_OF_FILE. The journal's state does not matter, and no Usn is compared with the journal's.
+ * the selected files, each as usn_read_file gives one, time and reason 0, with the name of its row, up to the first that does not fit.
+ * Selected is a file with an id that is the start or above and a Usn from LowUsn to HighUsn, both ends in, where neither its id nor its
+ * parent's is wide. The id in front is that of the first selected file that did not fit, or else that of the last one given plus 1. A
+ * caller returns with it as its next start, and with USN_READ_ROOM bytes of output or more, over a table that does not change, comes to
+ * every selected file once, in order, and then to END_OF_FILE. The journal's state does not matter, and no Usn is compared with the
+ * journal's.
  * The rows may stand in any order. Each call judges the whole table: one by rising id is judged and read in a few passes over its rows and
  * names; any other takes time that grows with the square of its rows.
  * Input: the start id u64, LowUsn i64 and HighUsn i64, both signed; from 32 bytes on also the lowest and highest version, u16 each, and 4
