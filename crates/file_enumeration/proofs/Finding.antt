@@ -17,7 +17,7 @@ use Rattle.file_table.proofs.Rising.{false-true, rising-rest, rising-below, ris
 use Rattle.file_table.proofs.Places.{row-split, row-member}
 use Rattle.file_enumeration.specs.declared.Query.{Query}
 use Rattle.file_enumeration.specs.Enumerate.{selects, filesOf, startingAt}
-use Rattle.file_enumeration.specs.Steps.{filesFrom, Leads, Ahead, lowerOf}
+use Rattle.file_enumeration.specs.Steps.{Leads, Ahead, lowerOf}
 use Rattle.file_enumeration.proofs.Ordering.{selects-start, least-first, none-first}
 
 -- ---- by what is found

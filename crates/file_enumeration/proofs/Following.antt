@@ -2,28 +2,23 @@
 -- Assumes nothing.
 use mathlib.Core.Path.{_≡_, refl, sym, ap, _∙_, subst}
 use mathlib.Core.Logic.{_⊎_, inl, inr}
-use mathlib.Core.Bool.{Bool, true, false, not, cond, _&&_}
+use mathlib.Core.Bool.{Bool, true, false, not, cond}
 use mathlib.Core.Option.{Option, none, some}
-use mathlib.Core.List.{List, [], _∷_, _++_, map, map-append, List·Memᴰ, List·Memᴰ·head, List·Memᴰ·tail, List·Memᴰ·not-nil, List·Memᴰ·cases-cons, Memᴰ·append-left, tail-eq-of-cons-eq}
-use Prim.Native.Nat.{ℕ, zero, suc, _+_, _-_, _*_, _/_, _%_, _^_, _≤_, _<_}
+use mathlib.Core.List.{List, [], _∷_, _++_, map, map-append, List·Memᴰ, List·Memᴰ·head, List·Memᴰ·tail, List·Memᴰ·cases-cons, Memᴰ·append-left, tail-eq-of-cons-eq}
+use Prim.Native.Nat.{ℕ, zero, suc, _+_, _-_, _^_, _≤_, _<_}
 use native.Mathlib.Omega.{arith}
-use lib.Dec.{leb, ltb, eqb, lit<}
-use lib.ListN.{length, take, drop, length-append, length-drop}
-use lib.Seq.{take-at, drop-at, drop-drop, length-take-le}
-use borrow.Author.Tests.{ltb-true, leb-true, leb-false, eqb-false, not-true, le-leb, lt-leb}
+use lib.Dec.{leb, lit<}
+use lib.ListN.{length, take, drop, length-append}
+use lib.Seq.{take-at, drop-at, drop-drop}
+use borrow.Author.Tests.{leb-true, leb-false, le-leb, lt-leb}
 use Rattle.le.specs.Numbers.{le, unle, numberAt}
 use Rattle.le.specs.Bytes.{Bytes}
-use Rattle.le.proofs.Numbers.{bytes-drop, bytes-take, unle-le, length-le}
-use Rattle.le.proofs.Places.{number-lt}
-use Rattle.le.proofs.Runs.{and-left, and-right}
-use Rattle.names.specs.Names.{goodName, goodIn}
-use Rattle.names.proofs.Names.{in-named}
+use Rattle.le.proofs.Numbers.{unle-le, length-le}
 use Rattle.status.specs.declared.Status.{Status}
 use Rattle.status.specs.declared.Status.the-variants.{Success, InvalidParameter, InvalidDeviceRequest, EndOfFile, BufferTooSmall, FileCorruptError}
 use Rattle.status.specs.Check.{unless, else}
 use Rattle.status.specs.Reply.{Reply, refuse, give, guard}
-use Rattle.file_ids.specs.Ids.{Id, wide, idNumber}
-use Rattle.file_ids.proofs.Ids.{narrow-lt}
+use Rattle.file_ids.specs.Ids.{idNumber}
 use Rattle.volume.specs.declared.Volume.{Volume}
 use Rattle.volume.specs.State.{supported}
 use Rattle.usn_record.specs.declared.Version.{Version}
@@ -38,11 +33,11 @@ use Rattle.records.specs.Records.{Records, whole, recordList, joined}
 use Rattle.records.proofs.Runs.{AllSound}
 use Rattle.reply_walker.specs.Reply.{positionOf, recordsOf}
 use Rattle.reply_walker.proofs.Replies.{reply-read}
-use Rattle.file_table.specs.Table.{Row, rowIn, firstRows, rows, rowName, goodRow, goodRows, distinct, rightTable, rising}
+use Rattle.file_table.specs.Table.{Row, rows, rowName, distinct, rightTable, rising}
 use Rattle.file_table.proofs.Rising.{rising-below}
 use Rattle.file_table.proofs.Places.{table-distinct, Right, right-row}
 use Rattle.file_enumeration.specs.declared.Query.{Query}
-use Rattle.file_enumeration.specs.Enumerate.{queryIn, enumVersion, fromLow, toHigh, selects, selected, byId, filesOf, rowFields, rowBytes, rowLength, Page, pageOf, rowsBytes, isEmpty, inputCheck, enumCheck, pageReply, filesReply, enumReply, startingAt}
+use Rattle.file_enumeration.specs.Enumerate.{queryIn, enumVersion, selects, selected, byId, filesOf, rowFields, rowBytes, rowLength, Page, pageOf, rowsBytes, isEmpty, inputCheck, enumCheck, pageReply, filesReply, enumReply, startingAt}
 use Rattle.file_enumeration.specs.Follow.{Turn, Ample, inputOf, Given, goesOn, follow, allRecords, recordOf, Followed, Sized, Enumerates}
 use Rattle.file_enumeration.proofs.Ordering.{files-rise, files-in, files-out, least-first, start-raised, listed}
 use Rattle.file_enumeration.proofs.Selecting.{selects-narrow, next-fits}

@@ -2,7 +2,7 @@
 ghost use mathlib.Core.Path.{_≡_};
 ghost use mathlib.Core.Bool.{true};
 ghost use Prim.Native.Nat.{_+_, _-_, _%_, _≤_, _<_};
-ghost use lib.ListN.{length, drop};
+ghost use lib.ListN.{length};
 ghost use Rattle.status.specs.Reply.{Replied, guard};
 ghost use Rattle.usn_record.specs.Version.{chosen};
 ghost use Rattle.file_table.specs.Table.{rows, goodRow, distinct, rightTable, rising};

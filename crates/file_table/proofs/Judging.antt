@@ -2,19 +2,17 @@
 -- Assumes nothing.
 use mathlib.Core.Path.{_≡_, refl, sym, ap, _∙_}
 use mathlib.Core.Bool.{Bool, true, false, not, cond, _&&_, _||_}
-use mathlib.Core.List.{List, [], _∷_}
+use mathlib.Core.List.{List, _∷_}
 use Prim.Native.Nat.{ℕ, _+_, _-_, _%_, _^_, _≤_, _<_}
 use native.Mathlib.Omega.{arith}
 use lib.Dec.{ltb, eqb}
 use lib.ListN.{length, drop}
-use borrow.Author.Tests.{not-true, not-false, lt-ltb, le-ltb, ltb-true, ltb-false, eqb-true, eq-eqb, ne-eqb, eqb-false}
+use borrow.Author.Tests.{lt-ltb, le-ltb, ltb-true, ltb-false, eqb-true, eq-eqb, ne-eqb, eqb-false}
 use Rattle.le.specs.Numbers.{numberAt}
 use Rattle.le.specs.Bytes.{Bytes}
 use Rattle.le.proofs.Places.{number-lt}
-use Rattle.le.proofs.Runs.{and-left, and-right}
 use Rattle.file_ids.specs.Ids.{idNumber}
 use Rattle.names.specs.Names.{goodIn}
-use Rattle.file_table.specs.declared.Order.{Order}
 use Rattle.file_table.specs.declared.Order.the-variants.{Rising, Mixed, Bad}
 use Rattle.file_table.specs.Table.{Row, rows, goodRow, goodRows, hasId, distinct, rightTable, above, rising, orderOf}
 use Rattle.file_table.specs.Steps.{rowAt, idAt}
@@ -142,9 +140,9 @@ module _ (pool s : List ℕ) where
       unfolding rightTable
       in-order r = rw (eq-eqb (length s % 56) 0 e, g, rising-distinct (rows s) r, r)
 
-      pub twins-bad : distinct (rows s) ≡ false → Bad ≡ orderOf pool s
+      pub duplicate-bad : distinct (rows s) ≡ false → Bad ≡ orderOf pool s
       unfolding rightTable
-      twins-bad d = rw (eq-eqb (length s % 56) 0 e, g, d)
+      duplicate-bad d = rw (eq-eqb (length s % 56) 0 e, g, d)
 
       pub mixed : rising (rows s) ≡ false → distinct (rows s) ≡ true → Mixed ≡ orderOf pool s
       unfolding rightTable

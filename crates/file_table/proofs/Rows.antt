@@ -14,7 +14,7 @@ use Rattle.le.specs.Bytes.{Bytes}
 use Rattle.le.proofs.Places.{number-lt, number-split, le-number}
 use Rattle.file_ids.specs.Ids.{wide, idBytes}
 use Rattle.file_ids.proofs.Ids.{wide-halves}
-use Rattle.file_table.specs.Table.{Row, rowIn, firstRows, rows}
+use Rattle.file_table.specs.Table.{rowIn, firstRows, rows}
 use Rattle.file_table.specs.Steps.{rowAt, idAt}
 
 -- ---- the first row and the rest

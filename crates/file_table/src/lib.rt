@@ -72,7 +72,7 @@ fn rises(table: &[u8]) -> bool
 }
 
 // Whether the id of the row at `at` stands in a row behind it too.
-fn has_twin(table: &[u8], at: usize) -> bool
+fn has_duplicate(table: &[u8], at: usize) -> bool
     requires { ⌜ at + 56 ≤ length (now table) ⌝ }
     ensures { λ r. ⌜ r ≡ hasId (idAt (now (table .entry)) at) (rows (drop (at + 56) (now (table .entry)))) ⌝ }
 {
@@ -87,12 +87,12 @@ fn has_twin(table: &[u8], at: usize) -> bool
 }
 
 // Whether an id stands twice: each is looked for in all rows behind it.
-fn has_twins(table: &[u8]) -> bool
+fn has_duplicates(table: &[u8]) -> bool
     ensures { λ r. ⌜ not r ≡ distinct (rows (now (table .entry))) ⌝ }
 {
     let mut at = 0;
     while ROW <= table.len() - at {
-        if has_twin(table, at) {
+        if has_duplicate(table, at) {
             return true;
         }
         at += ROW;
@@ -156,7 +156,7 @@ pub fn judge_table(pool: &[u8], table: &[u8]) -> Order
     if rises(table) {
         return Order::Rising;
     }
-    if has_twins(table) {
+    if has_duplicates(table) {
         return Order::Bad;
     }
     Order::Mixed

@@ -1,17 +1,16 @@
 -- `fill` meets its contract: what is written, joined with the page from the next file on in the room that is left, is the whole page.
 -- Assumes nothing.
-use mathlib.Core.Path.{_≡_, refl, sym, ap, _∙_, subst}
+use mathlib.Core.Path.{_≡_, subst}
 use mathlib.Core.Bool.{true}
-use Prim.Native.Nat.{ℕ, suc, _+_, _-_, _%_, _^_, _≤_, _<_}
+use Prim.Native.Nat.{ℕ, suc, _+_, _-_, _≤_, _<_}
 use native.Mathlib.Omega.{arith}
 use lib.ListN.{length}
 use Rattle.le.specs.Bytes.{Bytes}
 use Rattle.file_table.specs.Table.{rightTable}
 use Rattle.file_table.specs.Steps.{idAt}
 use Rattle.file_table.proofs.Places.{table-whole, table-distinct}
-use Rattle.file_enumeration.specs.declared.Query.{Query}
 use Rattle.file_enumeration.specs.Enumerate.{startingAt}
-use Rattle.file_enumeration.specs.Steps.{Leads, Ahead}
+use Rattle.file_enumeration.specs.Steps.{Ahead}
 use Rattle.file_enumeration.proofs.Finding.{ahead-next}
 use Rattle.file_enumeration.proofs.Filling.{Filled, Turned, fill-start, fill-inside, fill-good, turned, fill-end}
 use Rattle.file_enumeration.proofs.fill.Statement.{statement}

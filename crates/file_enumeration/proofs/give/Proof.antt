@@ -1,11 +1,10 @@
 -- `give` meets its contract: the fields and the name are those of the row, and a good row's name is short.
 -- Assumes nothing.
-use mathlib.Core.Path.{_≡_, refl}
+use mathlib.Core.Path.{refl}
 use Prim.Native.Nat.{_+_, _≤_}
 use native.Mathlib.Omega.{arith}
 use lib.ListN.{length}
 use borrow.Author.Needs.{needs}
-use Rattle.le.specs.Bytes.{Bytes}
 use Rattle.file_enumeration.proofs.Filling.{give-fits, give-short, give-written}
 use Rattle.file_enumeration.proofs.give.Statement.{statement}
 use Rattle.file_enumeration.proofs.give.Tie as tie

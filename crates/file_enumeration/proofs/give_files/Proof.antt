@@ -1,15 +1,14 @@
 -- `give_files` meets its contract: nothing selected, a first file that does not fit, or the page behind its id.
 -- Assumes nothing.
-use mathlib.Core.Path.{_≡_, refl, sym, ap, _∙_, subst}
+use mathlib.Core.Path.{_≡_, refl, ap, _∙_, subst}
 use mathlib.Core.Bool.{Bool, false, cond}
-use mathlib.Core.List.{List, [], _∷_}
-use Prim.Native.Nat.{ℕ, suc, _+_, _-_, _≤_}
+use mathlib.Core.List.{[], _∷_}
+use Prim.Native.Nat.{ℕ, suc, _-_}
 use native.Mathlib.Omega.{arith}
 use lib.ListN.{length, length-drop}
 use lib.Dec.{ltb}
 use borrow.Author.Tests.{le-ltb, lt-ltb}
 use Rattle.le.proofs.Tail.{lent, lent-tail}
-use Rattle.file_table.specs.Table.{Row}
 use Rattle.file_table.specs.Steps.{rowAt, idAt}
 use Rattle.file_table.proofs.Places.{table-whole, table-distinct}
 use Rattle.file_enumeration.specs.Enumerate.{filesOf, isEmpty, Page, pageOf, startingAt}

@@ -5,7 +5,7 @@ use mathlib.Core.Bool.{true, not}
 use native.Mathlib.Omega.{arith}
 use borrow.Author.Tests.{not-true, not-false}
 use Rattle.file_table.specs.Table.{rows, goodRows}
-use Rattle.file_table.proofs.Judging.{uneven, row-bad, in-order, twins-bad, mixed}
+use Rattle.file_table.proofs.Judging.{uneven, row-bad, in-order, duplicate-bad, mixed}
 use Rattle.file_table.proofs.judge_table.Statement.{statement}
 use Rattle.file_table.proofs.judge_table.Tie as tie
 
@@ -37,7 +37,7 @@ returns-4 c =
     let f = t .before .before .before in
     let e = f .before .before in
     let a = e .before .before .before .args in
-    twins-bad (a .pool .now) (a .table .now) (omega (arith, e .if1 .left)) (right f) (sym (t .has-twins .ensures) ∙ ap not (c .if4 .taken))
+    duplicate-bad (a .pool .now) (a .table .now) (omega (arith, e .if1 .left)) (right f) (sym (t .has-duplicates .ensures) ∙ ap not (c .if4 .taken))
 
 returns-5 : tie.Need-returns-5
 returns-5 c =
@@ -47,7 +47,7 @@ returns-5 c =
     let f = r .before in
     let e = f .before .before in
     let a = e .before .before .before .args in
-    mixed (a .pool .now) (a .table .now) (omega (arith, e .if1 .left)) (right f) (sym (r .rises .ensures) ∙ o .if3 .left) (sym (t .has-twins .ensures) ∙ ap not (c .if4 .left))
+    mixed (a .pool .now) (a .table .now) (omega (arith, e .if1 .left)) (right f) (sym (r .rises .ensures) ∙ o .if3 .left) (sym (t .has-duplicates .ensures) ∙ ap not (c .if4 .left))
 
 pub judge-table-spec : {M : Type 1} → statement M
 judge-table-spec = tie.close (tie.spec returns (λ c κs. omega arith) returns-2 (λ c κs. omega arith) returns-3 (λ c κs. omega arith) returns-4 returns-5)

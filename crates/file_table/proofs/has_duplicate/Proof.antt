@@ -1,4 +1,4 @@
--- `has_twin` meets its contract: the rows between have other ids.
+-- `has_duplicate` meets its contract: the rows between have other ids.
 -- Assumes nothing.
 use mathlib.Core.Path.{_≡_, refl, sym, ap, _∙_}
 use mathlib.Core.Bool.{Bool, _||_}
@@ -8,8 +8,8 @@ use lib.ListN.{length, drop}
 use Rattle.file_table.specs.Table.{rows, hasId}
 use Rattle.file_table.specs.Steps.{idAt}
 use Rattle.file_table.proofs.Judging.{has-end, has-next}
-use Rattle.file_table.proofs.has_twin.Statement.{statement}
-use Rattle.file_table.proofs.has_twin.Tie as tie
+use Rattle.file_table.proofs.has_duplicate.Statement.{statement}
+use Rattle.file_table.proofs.has_duplicate.Tie as tie
 
 abbrev Inv-loop : tie.InvT-loop
 Inv-loop table at next₀ next = (next ≤ length table) × (hasId (idAt table at) (rows (drop (at + 56) table)) ≡ hasId (idAt table at) (rows (drop next table)))
@@ -50,8 +50,8 @@ returns-2 c =
     let a = l .before .before .args in
     sym (l .loop .inv .1 ∙ has-end (a .table .now) (l .loop .next) (idAt (a .table .now) (a .at)) (omega (arith, c .loop-test .left)))
 
-pub has-twin-spec : {M : Type 1} → statement M
-has-twin-spec =
+pub has-duplicate-spec : {M : Type 1} → statement M
+has-duplicate-spec =
     tie.close
     (tie.spec Inv-loop μ-loop (λ c. omega arith) (λ c. (omega arith, refl)) (λ c. omega (arith, c .loop .inv .0)) (λ c κs. omega (arith, c .before .before .before .pre, c .loop-test .taken, c .before .loop .inv .0))
     returns (λ c. omega (arith, c .before .before .loop-test .taken)) (λ c. omega (arith, c .before .before .loop-test .taken)) loop-again returns-2)
