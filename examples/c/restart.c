@@ -55,10 +55,11 @@ static ssize_t read_image(int folder)
     return got < 0 ? -1 : (ssize_t)size;
 }
 
-/* A new journal, in which every service begins anew. */
+/* A new journal, in which every service begins anew. Its Usns lie above those that files have. */
 static int create(int folder, uint64_t id)
 {
-    volume.last = 8;
+    uint64_t highest = highest_usn();
+    volume.last = highest < 8 ? 8 : (highest + 7) / 8 * 8;
     return usn_create(&volume, id) == USN_SUCCESS && save(folder);
 }
 

@@ -11,6 +11,9 @@ extern uint8_t ring[USN_CAPACITY_MIN];
 /* An id that no journal of this volume has had: a counter that is kept before it is used, or the time. */
 uint64_t new_id(void);
 
+/* The highest Usn of any file, 0 if none has one. */
+uint64_t highest_usn(void);
+
 /*
  * Tells the services, those too that come later, that they may go on under volume.id if they stand in journal `id`, at most at position
  * `last`: the LastUsn of this moment, not of later.

@@ -147,6 +147,15 @@ uint64_t new_id(void)
     return ++ids;
 }
 
+uint64_t highest_usn(void)
+{
+    uint64_t highest = 0;
+    for (size_t i = 0; i < files; i++)
+        if (highest < table[i].usn)
+            highest = table[i].usn;
+    return highest;
+}
+
 void tell_services(uint64_t id, uint64_t last)
 {
     if (service.id == id && service.position <= last)
