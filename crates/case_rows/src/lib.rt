@@ -1,4 +1,6 @@
 // What the programs with cases for the gate share: rows of nine numbers, and what they print.
+#![tactic(auto)]
+
 ghost use Rattle.std.specs.Prelude.{◌≡◌, ◌%◌, ◌≤◌, ◌^◌, min, length};
 ghost use Rattle.case_rows.specs.Rows.{number_in, digest_from};
 

@@ -1,4 +1,6 @@
 // Numbers of 64 bits in decimal, as ASCII text, written at the start of a lent slice.
+#![tactic(auto)]
+
 ghost use Rattle.std.specs.Prelude.{◌≡◌, ◌++◌, ◌≤◌, length, drop};
 ghost use Rattle.decimal.specs.Decimal.{decimal, signed};
 

@@ -1,5 +1,7 @@
 // Runs the controls on one file over rows of nine numbers and prints what each answers, for the gate. The rows, and the lines that
 // must come of them, are made by tools/make_files.py, which shares nothing with the crates.
+#![tactic(auto)]
+
 ghost use Rattle.std.specs.Prelude.{◌≤◌};
 
 use case_rows::{ROW, digest, number, print, print_number, print_status, size, word};

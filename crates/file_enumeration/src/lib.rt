@@ -1,4 +1,6 @@
 // FSCTL_ENUM_USN_DATA: USN records of a volume's files as they are now, by rising id, from a lent table of them.
+#![tactic(auto)]
+
 ghost use Rattle.std.specs.Prelude.{◌≡◌, true, ◌+◌, ◌-◌, ◌%◌, ◌≤◌, ◌<◌, length};
 ghost use Rattle.status.specs.Reply.{Replied, guard};
 ghost use Rattle.usn_record.specs.Version.{chosen};
@@ -16,7 +18,7 @@ use usn_record::{Choice, NEGATIVE, Version, input_version};
 use volume::Volume;
 
 // What a call asks for: files from an id on, with a Usn from Low to High, which are bit patterns of signed numbers.
-#[derive(Drop)]
+#[derive(Clone, Copy)]
 pub struct Query {
     pub start: u64,
     pub low: u64,
@@ -24,7 +26,7 @@ pub struct Query {
 }
 
 // What a reply holds: the id to go on from, and the bytes of its records.
-#[derive(Drop)]
+#[derive(Clone, Copy)]
 pub struct Sent {
     pub next: u64,
     pub count: usize,

@@ -15,7 +15,7 @@ use borrow.Kind.Array.{e_int, good_length}
 use Rattle.le.specs.Bytes.{Bytes}
 use Rattle.file_ids.specs.Ids.{Id}
 
-each-byte : (xs : List ℕ) (us : List Val) → shadow (each ℕ (e_int w8).ty.own xs us) → Bytes xs
+each-byte : (xs : List ℕ) (us : List Val) → shadow (each ℕ (e_int w8).ty.own_val xs us) → Bytes xs
 each-byte [] us p i = lit< tt
 each-byte (x ∷ xs) [] p i = absurd p
 each-byte (x ∷ xs) (u ∷ us) p zero = omega (arith, p.0.1)

@@ -1,5 +1,7 @@
 // File ids as sixteen bytes by value, the lowest first. In contracts an id is the list of its bytes; `idNumber` and `idBytes` go between
 // that and the one number that a record's layout has for it.
+#![tactic(auto)]
+
 ghost use Rattle.std.specs.Prelude.{◌≡◌, ◌+◌, ◌*◌, ◌^◌, ◌≤◌, length};
 ghost use Rattle.le.specs.Numbers.{unle, number_at};
 ghost use Rattle.file_ids.specs.Ids.{wide, id_bytes};

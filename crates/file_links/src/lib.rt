@@ -1,5 +1,7 @@
 // A file's links: when their table is right, and which one's name stands for the file. Here the table is lent as three slices of
 // numbers: the places and lengths of the names in a pool, and the lengths of the short names.
+#![tactic(auto)]
+
 ghost use Rattle.std.specs.Prelude.{◌≡◌, ◌≤◌, length};
 ghost use Rattle.file_links.specs.Links.{no_link, links_of, good_link, good_table, chosen_link};
 ghost use Rattle.file_links.specs.Steps.{has, first_nonzero};
@@ -8,7 +10,7 @@ use names::good_in;
 
 // A link: the place and length of its name in a pool, and the length of its short name.
 #[repr(C)]
-#[derive(Drop)]
+#[derive(Clone, Copy)]
 pub struct Link {
     pub place: u32,
     pub length: u32,

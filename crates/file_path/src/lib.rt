@@ -1,5 +1,7 @@
 // A file's path below a root, from a lent table of the volume's files: the names on the way from the root down, with a code unit 0x5C between
 // two of them. The way goes from each file to its parent, and is taken twice: for the path's length, and to write it.
+#![tactic(auto)]
+
 ghost use Rattle.std.specs.Prelude.{◌≡◌, true, ◌+◌, ◌≤◌, length};
 ghost use Rattle.status.specs.Reply.{Replied};
 ghost use Rattle.file_table.specs.Table.{key_number, rows, good_row, right_table, rising};
@@ -17,7 +19,7 @@ use status::{Answer, Status};
 const STEPS: usize = 64;
 
 // How many bytes a path has, or why there is none.
-#[derive(Drop)]
+#[derive(Clone, Copy)]
 enum Extent {
     Bytes(usize),
     Refused(Status),

@@ -1,10 +1,11 @@
 // A file's record as the server lends it to a control. Its reparse data, names and links are lent beside it.
+#![tactic(auto)]
 
 use file_ids::FileId;
 
 // Sizes and Usn are bit patterns of 64 bits; a control refuses what is out of range.
 #[repr(C)]
-#[derive(Drop)]
+#[derive(Clone, Copy)]
 pub struct FileRecord {
     pub id: FileId,
     pub usn: u64,

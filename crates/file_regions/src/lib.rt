@@ -1,4 +1,6 @@
 // FSCTL_QUERY_FILE_REGIONS: which part of a file's range holds valid data.
+#![tactic(auto)]
+
 ghost use Rattle.std.specs.Prelude.{◌≡◌, true, ◌||◌, ◌++◌, ◌≤◌, min, leb, eqb, length, drop};
 ghost use Rattle.std.proofs.Math.Option.{none};
 ghost use Rattle.status.specs.Check.{judged};
@@ -10,7 +12,7 @@ use status::{Answer, Judged, Status};
 use volume::Volume;
 
 // What a caller asks for.
-#[derive(Drop)]
+#[derive(Clone, Copy)]
 pub struct Asked {
     pub offset: u64,
     pub length: u64,
@@ -18,7 +20,7 @@ pub struct Asked {
 }
 
 // One region of the reply.
-#[derive(Drop)]
+#[derive(Clone, Copy)]
 pub struct Region {
     pub offset: u64,
     pub length: u64,

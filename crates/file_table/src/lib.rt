@@ -1,6 +1,8 @@
 // A table of a volume's files, lent as rows of 56 bytes: id and parent of 16 bytes each, Usn u64, attributes u32, and the length u32
 // and place u64 of the name in a pool. A table in rising order of ids is judged in two passes, and a row of it is found by halving; in any
 // other order each id is looked for in the rows behind it, and a row is found by a pass.
+#![tactic(auto)]
+
 ghost use Rattle.std.specs.Prelude.{◌≡◌, true, not, ◌+◌, ◌%◌, ◌≤◌, ltb, eqb, length, drop};
 ghost use Rattle.le.specs.Numbers.{number_at};
 ghost use Rattle.file_ids.specs.Ids.{id_number};
@@ -24,14 +26,14 @@ pub const LENGTH: usize = 44;
 pub const PLACE: usize = 48;
 
 // An id by its lower and its upper half.
-#[derive(Drop)]
+#[derive(Clone, Copy)]
 pub struct Key {
     pub low: u64,
     pub high: u64,
 }
 
 // What a table is: right and in rising order of ids, right and in another order, or not right.
-#[derive(Drop)]
+#[derive(Clone, Copy)]
 pub enum Order {
     Rising,
     Mixed,

@@ -1,4 +1,6 @@
 // FSCTL_READ_FILE_USN_DATA: a USN record of the file as it is now.
+#![tactic(auto)]
+
 ghost use Rattle.std.specs.Prelude.{◌≡◌, true, List, ℕ, length};
 ghost use Rattle.status.specs.Reply.{Replied};
 ghost use Rattle.usn_record.specs.Version.{chosen};

@@ -1,4 +1,6 @@
 // Bytes and 32-bit numbers in lower-case hex, as ASCII text, written at the start of a lent slice.
+#![tactic(auto)]
+
 ghost use Rattle.std.specs.Prelude.{◌≡◌, ◌++◌, ◌*◌, ◌≤◌, ◌<◌, length, drop};
 ghost use Rattle.hex_text.specs.Hex.{hex_digit, hex_byte, hex_bytes, hex_word};
 

@@ -1,4 +1,6 @@
 // A stored image as a file. No contract can speak of what the system reads or writes; each function says on standard error what failed.
+#![tactic(auto)]
+
 ghost use Rattle.std.specs.Prelude.{◌≤◌, length};
 ghost use Rattle.list_input.specs.Input.{Within};
 

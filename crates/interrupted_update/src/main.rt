@@ -1,4 +1,6 @@
 // An update of three files, followed through the journal by a service that is cut off in the middle of it.
+#![tactic(auto)]
+
 use case_rows::print;
 use update_steps::{CHANGES, ID, START, created, post_changes, read_on, read_once};
 use volume::Volume;

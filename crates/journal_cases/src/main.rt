@@ -1,6 +1,8 @@
 // Runs lists of calls on a journal and prints what each call answers and leaves, for the gate. Its arguments name files of
 // rows of nine numbers; the files, and the lines that must come of them, are made by tools/make_journal.py, which shares
 // nothing with the crates.
+#![tactic(auto)]
+
 ghost use Rattle.std.specs.Prelude.{length, ◌≤◌};
 
 use case_rows::{ROW, digest, number, print, print_number, print_status, size, word};

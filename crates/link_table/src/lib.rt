@@ -1,5 +1,7 @@
 // A file's links as a slice of structs. Each function here only looks through the slice: what is asked of one link stands in
 // `file_links`, over a link by value.
+#![tactic(auto)]
+
 ghost use Rattle.std.specs.Prelude.{◌≡◌};
 ghost use Rattle.file_links.specs.Links.{good_links, first_of, chosen_link};
 ghost use Rattle.file_links.specs.Steps.{has};

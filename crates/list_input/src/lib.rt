@@ -1,4 +1,6 @@
 // Reads a reply from a descriptor and writes its listing to standard output.
+#![tactic(auto)]
+
 ghost use Rattle.std.specs.Prelude.{List, ℕ, ◌+◌, ◌*◌, ◌≤◌, ◌<◌, length};
 ghost use Rattle.status.specs.declared.Status.TheVariants.{Success};
 ghost use Rattle.status.specs.Reply.{give, Replied};
@@ -9,7 +11,7 @@ use libc::STDOUT_FILENO;
 use status::Answer;
 
 // What reading an input found: how many bytes came, at most the buffer's length, or that a read failed.
-#[derive(Drop)]
+#[derive(Clone, Copy)]
 pub enum Input {
     Bytes(usize),
     Failed,

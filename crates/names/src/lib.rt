@@ -1,4 +1,6 @@
 // The rule for a name: even, at most 510 bytes, and no code unit 0, 0x2F or 0x5C. A code unit is two bytes, the lower first.
+#![tactic(auto)]
+
 ghost use Rattle.std.specs.Prelude.{◌≡◌, ◌++◌, ◌+◌, ◌%◌, length};
 ghost use Rattle.std.specs.Int.Bits.{bit_and};
 ghost use Rattle.names.specs.Names.{good_unit, good_units, good_name, good_in};

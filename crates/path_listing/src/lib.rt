@@ -1,4 +1,6 @@
 // A file's line: its id, and its path below a root as text, or why it has none. Written at the start of a lent slice.
+#![tactic(auto)]
+
 mod text;
 
 ghost use Rattle.std.specs.Prelude.{◌≡◌, true, false, ◌++◌, ◌+◌, ◌/◌, ◌%◌, ◌^◌, ◌≤◌, eqb, length, drop};

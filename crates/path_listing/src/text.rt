@@ -3,7 +3,7 @@ ghost use Rattle.std.specs.Prelude.{◌≡◌, true, ◌++◌, ◌+◌, ◌-◌,
 ghost use Rattle.path_listing.specs.Text.{within, is_pair, is_control, is_shown, utf8, escape, unit_text, pair_text, text};
 
 // How many bytes of a path were read, and how many of its text that made.
-#[derive(Drop)]
+#[derive(Clone, Copy)]
 struct Extent {
     read: usize,
     written: usize,

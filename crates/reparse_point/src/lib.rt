@@ -1,4 +1,6 @@
 // Reparse points: what every control on one asks first, and FSCTL_GET_REPARSE_POINT, a file's reparse tag and data.
+#![tactic(auto)]
+
 ghost use Rattle.std.specs.Prelude.{◌≡◌, ◌++◌, ◌+◌, ◌-◌, ◌≤◌, length, take, drop};
 ghost use Rattle.status.specs.declared.Status.TheVariants.{FileCorruptError};
 ghost use Rattle.status.specs.Check.{unless, else, judged};

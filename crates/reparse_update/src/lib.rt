@@ -1,4 +1,6 @@
 // FSCTL_SET_REPARSE_POINT and FSCTL_DELETE_REPARSE_POINT: a file's reparse point is set or deleted, and the change is posted.
+#![tactic(auto)]
+
 ghost use Rattle.std.specs.Prelude.{◌≡◌, true, not, ◌&&◌, ◌||◌, ◌≤◌, ◌<◌, eqb, length};
 ghost use Rattle.std.proofs.Math.Option.{none};
 ghost use Rattle.le.specs.Numbers.{unle};
@@ -15,14 +17,14 @@ use status::{Judged, Status, status_number};
 use volume::Volume;
 
 // Which of the two a call is.
-#[derive(Drop)]
+#[derive(Clone, Copy)]
 pub enum Update {
     Set,
     Delete,
 }
 
 // What a call answers, and the records after it.
-#[derive(Drop)]
+#[derive(Clone, Copy)]
 pub struct Updated {
     pub status: Status,
     pub volume: Volume,

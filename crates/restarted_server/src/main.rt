@@ -1,4 +1,6 @@
 // An update of three files whose server loses its power in the middle of it, and goes on with the journal that it saved.
+#![tactic(auto)]
+
 ghost use Rattle.std.specs.Prelude.{length, ◌*◌, ◌≤◌, ◌<◌};
 
 use case_rows::{print, print_number};

@@ -1,10 +1,12 @@
 // The statuses of the file controls and what a call answers.
+#![tactic(auto)]
+
 ghost use Rattle.std.specs.Prelude.{◌≡◌};
 ghost use Rattle.status.specs.Number.{number};
 ghost use Rattle.status.specs.Reply.{refuse, answer};
 
 // [MS-ERREF]'s STATUS_ names.
-#[derive(Drop)]
+#[derive(Clone, Copy)]
 pub enum Status {
     Success,
     BufferOverflow,
@@ -30,14 +32,14 @@ pub enum Status {
 }
 
 // What a control answers: its status and how many bytes of the output it wrote.
-#[derive(Drop)]
+#[derive(Clone, Copy)]
 pub struct Answer {
     pub status: Status,
     pub count: usize,
 }
 
 // What a call's checks come to.
-#[derive(Drop)]
+#[derive(Clone, Copy)]
 pub enum Judged {
     Passed,
     Refused(Status),

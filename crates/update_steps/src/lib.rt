@@ -1,5 +1,7 @@
 // What the programs that play an update share: an update of three files, and a service that follows it through the journal. No
 // contract can speak of what the functions print.
+#![tactic(auto)]
+
 ghost use Rattle.std.specs.Prelude.{◌≡◌, ◌++◌, ◌≤◌, length, drop};
 ghost use Rattle.status.specs.Reply.{Replied};
 ghost use Rattle.volume.specs.Calls.{create_outcome};

@@ -1,5 +1,7 @@
 // Lists a stored image of a journal, or moves it from one form to the other. No contract can speak of what the system reads or writes: all
 // that is decided about an image's bytes is decided by `list_image` and `move_image`, but that a file longer than any image is none.
+#![tactic(auto)]
+
 ghost use Rattle.std.specs.Prelude.{◌≤◌, length};
 ghost use Rattle.list_input.specs.Input.{Within};
 

@@ -1,4 +1,6 @@
 // Lists each file that its arguments name, under a line with the name.
+#![tactic(auto)]
+
 use libc::STDOUT_FILENO;
 
 fn list_file(path: &[u8]) {

@@ -1,5 +1,7 @@
 // Shows the path of each file that captured replies of an enumeration tell of. No contract can speak of what the system reads or writes: the
 // table is made by `add_reply`, judged by `judge_table`, and each line is `put_path_line`'s.
+#![tactic(auto)]
+
 mod root;
 mod table;
 
@@ -27,7 +29,7 @@ const POOL: usize = 2097152;
 const LINE: usize = 98332;
 
 // What is taken of the table and the pool, and whether every file so far was good.
-#[derive(Drop)]
+#[derive(Clone, Copy)]
 struct Taken {
     rows: usize,
     names: usize,

@@ -6,7 +6,7 @@ ghost use Rattle.usnpaths.specs.Root.{digit_of, digits_from, start_of, id_of, ro
 use file_table::Key;
 
 // What a word says: an id, or none.
-#[derive(Drop)]
+#[derive(Clone, Copy)]
 pub enum Root {
     Id(Key),
     Unknown,

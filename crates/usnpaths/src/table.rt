@@ -14,14 +14,14 @@ use reply_walker::Walk;
 use usn_record::Fields;
 
 // How many bytes of the table and of the pool are taken.
-#[derive(Drop)]
+#[derive(Clone, Copy)]
 pub struct Extent {
     pub rows: usize,
     pub names: usize,
 }
 
 // What became of a reply: all of its records are rows now, or why not.
-#[derive(Drop)]
+#[derive(Clone, Copy)]
 pub enum Added {
     All(Extent),
     BadAt(usize),
