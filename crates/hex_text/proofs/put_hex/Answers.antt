@@ -15,14 +15,13 @@ loop-i-init c =
     search rules
 
 pub loop-i-preserved : goal.loop-i-preserved
-loop-i-preserved c =
-    (
-      omega arith,
-      omega arith,
-      same_len_mid c.loop-i.at (length c.loop-i.out - c.loop-i.at) c.loop-i.out c.put_hex_byte.new.out c.put_hex_byte.auto.out ∙ c.loop-i.invariant.2,
-      hex-again c.loop-i.at c.loop-i.i c.args.s.now c.loop-i.out c.args.out.now c.put_hex_byte.new.out
-          c.loop-i.invariant.1 c.loop-i-test.true c.requires c.loop-i.invariant.3 c.put_hex_byte.ensures,
-    )
+loop-i-preserved c = (
+  omega arith,
+  omega arith,
+  same_len_mid c.loop-i.at (length c.loop-i.out - c.loop-i.at) c.loop-i.out c.put_hex_byte.new.out c.put_hex_byte.auto.out ∙ c.loop-i.invariant.2,
+  hex-again c.loop-i.at c.loop-i.i c.args.s.now c.loop-i.out c.args.out.now c.put_hex_byte.new.out
+      c.loop-i.invariant.1 c.loop-i-test.true c.requires c.loop-i.invariant.3 c.put_hex_byte.ensures,
+)
 
 pub returns : goal.returns
 returns c =

@@ -15,11 +15,10 @@ returns-then-not-good_unit c =
     stops c.args.s.now c.loop-i.i (omega arith) c.good_unit.result (c.good_unit.ensures ∙ ap good_unit c.get.ensures.0) (not_from_false _ c.if-not-good_unit.true) c.loop-i.invariant.1
 
 pub loop-i-preserved : goal.loop-i-preserved
-loop-i-preserved c =
-    (
-      omega arith,
-      goes_on c.args.s.now c.loop-i.i (omega arith) c.good_unit.result (c.good_unit.ensures ∙ ap good_unit c.get.ensures.0) (not_from_true _ c.if-not-good_unit.false) c.loop-i.invariant.1,
-    )
+loop-i-preserved c = (
+  omega arith,
+  goes_on c.args.s.now c.loop-i.i (omega arith) c.good_unit.result (c.good_unit.ensures ∙ ap good_unit c.get.ensures.0) (not_from_true _ c.if-not-good_unit.false) c.loop-i.invariant.1,
+)
 
 pub returns : goal.returns
 returns c =
