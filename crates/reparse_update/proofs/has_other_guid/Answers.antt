@@ -1,7 +1,7 @@
 -- `has_other_guid` meets its contract: each return by the tests that led there.
 use mathlib.Core.Path.{◌∙◌}
 use native.Mathlib.Omega.{arith}
-use borrow.Author.Tests.{eq-eqb, ne_eqb, le-leb}
+use borrow.Author.Tests.{ne_eqb}
 use Rattle.reparse_update.proofs.Input.{parts-of, guid-decides}
 use Rattle.reparse_update.proofs.has_other_guid.Goals as goal
 
@@ -13,14 +13,10 @@ pub returns-then-f-tag_given : goal.returns-then-f-tag_given
 returns-then-f-tag_given c =
     rw (← c.tag_given.ensures, ne_eqb _ _ c.if-f-tag_given.true)
 
-pub returns-then-f-ge2147483648 : goal.returns-then-f-ge2147483648
-returns-then-f-ge2147483648 c =
-    rw (← c.tag_given.ensures, eq-eqb _ _ c.if-f-tag_given.false, le-leb _ _ c.if-f-ge2147483648.true)
-
 pub guid_given-requires : goal.guid_given-requires
 guid_given-requires c =
     c.requires
 
 pub returns : goal.returns
 returns c =
-    guid-decides c.args.f _ _ _ (c.if-f-tag_given.false ∙ c.tag_given.ensures) c.if-f-ge2147483648.false c.guid_given.ensures c.same_guid.ensures
+    guid-decides c.args.f _ _ _ (c.if-f-tag_given.false ∙ c.tag_given.ensures) (omega arith) c.guid_given.ensures c.same_guid.ensures
