@@ -1,13 +1,11 @@
 -- The judgement of a table of links, and the search through one, from an index on: what the rest from there says is what the whole says.
 -- Assumes nothing.
-use mathlib.Core.Path.{◌≡◌, refl, sym, ap, ◌∙◌}
-use mathlib.Core.Bool.{Bool, true, false, not, cond, ◌&&◌}
+use mathlib.Core.Path.{◌≡◌, sym, ap, ◌∙◌}
+use mathlib.Core.Bool.{Bool, true, false, cond, ◌&&◌}
 use mathlib.Core.List.{List, [], ◌∷◌}
 use Prim.Native.Nat.{ℕ, ◌+◌, ◌≤◌, ◌<◌}
 use native.Mathlib.Numerals.{add-one}
 use native.Mathlib.Omega.{arith}
-use borrow.Author.Tests.{not-false}
-use lib.Dec.{T}
 use lib.ListN.{length, drop, get_or, drop_of_length-le}
 use lib.Seq.{drop-cons}
 use Rattle.file_links.specs.declared.Link.{Link}
@@ -30,15 +28,6 @@ module _ {X : Type 0} (f : List Link → X) (ls : List Link) (i : ℕ) where
     rest_some : i < length ls → f (link_at ls i ∷ drop (i + 1) ls) ≡ f ls
     rest_some h = rw add-one (sym (ap f (drop-cons ls i no_link h)) ∙ p)
 
--- what a test of MIR says
-said-yes : (t : Bool) → T t → t ≡ true
-said-yes true h = refl
-said-yes false h = absurd h
-
-said-no : (t : Bool) → T (not t) → t ≡ false
-said-no true h = absurd h
-said-no false h = refl
-
 -- ---- the search
 
 module _ (short : Bool) (ls : List Link) (other : Link) where
@@ -54,16 +43,16 @@ module _ (short : Bool) (ls : List Link) (other : Link) where
     unfolding first_of
     stops-past h = ((λ _. rest-none search ls i p h), λ k. absurd (omega arith))
 
-    module _ (h : i < length ls) (r : Bool) (e : r ≡ has short (link_at ls i)) where
-      one : (t : Bool) → r ≡ t → search (link_at ls i ∷ drop (i + 1) ls) ≡ cond t (link_at ls i) (search (drop (i + 1) ls))
+    module _ (h : i < length ls) where
+      one : (t : Bool) → has short (link_at ls i) ≡ t → search (link_at ls i ∷ drop (i + 1) ls) ≡ cond t (link_at ls i) (search (drop (i + 1) ls))
       unfolding first_of
-      one t k = ap (λ (x : Bool). cond x (link_at ls i) (search (drop (i + 1) ls))) (sym e ∙ k)
+      one t k = ap (λ (x : Bool). cond x (link_at ls i) (search (drop (i + 1) ls))) k
 
-      pub stops-here : T r → Stops i
-      stops-here y = ((λ k. absurd (omega arith)), λ _. sym (one true (said-yes r y)) ∙ rest_some search ls i p h)
+      pub stops-here : has short (link_at ls i) ≡ true → Stops i
+      stops-here y = ((λ k. absurd (omega arith)), λ _. sym (one true y) ∙ rest_some search ls i p h)
 
-      pub goes_on : T (not r) → Rest search ls (i + 1)
-      goes_on y = sym (one false (said-no r y)) ∙ rest_some search ls i p h
+      pub goes_on : has short (link_at ls i) ≡ false → Rest search ls (i + 1)
+      goes_on y = sym (one false y) ∙ rest_some search ls i p h
 
 -- the search for a short name, where no name was found before but an empty one
 pub chosen : (ls : List Link) (a b r : Link) → a ≡ no_link → b ≡ first_of (has false) ls a → r ≡ first_of (has true) ls b → r ≡ chosen_link ls
@@ -77,13 +66,13 @@ module _ (pool : List ℕ) (ls : List Link) (i : ℕ) (p : Rest (good_links pool
   unfolding good_links
   all-good h = rest-none (good_links pool) ls i p h
 
-  module _ (h : i < length ls) (r : Bool) (e : r ≡ good_link pool (link_at ls i)) where
-    one-judged : (t : Bool) → r ≡ t → good_links pool (link_at ls i ∷ drop (i + 1) ls) ≡ t && good_links pool (drop (i + 1) ls)
+  module _ (h : i < length ls) where
+    one-judged : (t : Bool) → good_link pool (link_at ls i) ≡ t → good_links pool (link_at ls i ∷ drop (i + 1) ls) ≡ t && good_links pool (drop (i + 1) ls)
     unfolding good_links
-    one-judged t k = ap (λ (x : Bool). x && good_links pool (drop (i + 1) ls)) (sym e ∙ k)
+    one-judged t k = ap (λ (x : Bool). x && good_links pool (drop (i + 1) ls)) k
 
-    pub one-bad : T (not r) → false ≡ good_links pool ls
-    one-bad y = sym (one-judged false (said-no r y)) ∙ rest_some (good_links pool) ls i p h
+    pub one-bad : good_link pool (link_at ls i) ≡ false → false ≡ good_links pool ls
+    one-bad y = sym (one-judged false y) ∙ rest_some (good_links pool) ls i p h
 
-    pub good-on : T (not (not r)) → Rest (good_links pool) ls (i + 1)
-    good-on y = sym (one-judged true (not-false r (said-no (not r) y))) ∙ rest_some (good_links pool) ls i p h
+    pub good-on : good_link pool (link_at ls i) ≡ true → Rest (good_links pool) ls (i + 1)
+    good-on y = sym (one-judged true y) ∙ rest_some (good_links pool) ls i p h

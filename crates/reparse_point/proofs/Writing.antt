@@ -7,11 +7,9 @@ use mathlib.Core.Option.{none}
 use Prim.Native.Nat.{ℕ, ◌+◌, ◌-◌, ◌^◌, ◌≤◌, ◌<◌}
 use native.Mathlib.Omega.{arith}
 use lib.Dec.{leb, eqb}
-use lib.ListN.{length, take, drop, length-append, length-drop, length-map}
+use lib.ListN.{length, take, drop, length-append, length-drop}
 use lib.Seq.{take_all, length-take-le}
 use borrow.Author.Tests.{leb-true, le-leb, lt-leb}
-use denote.Laws.{Is}
-use denote.Struct.Laws.{vals, owed}
 use Rattle.le.specs.Numbers.{le, encode}
 use Rattle.le.proofs.Runs.{and_left, and_right}
 use Rattle.le.proofs.Tail.{lent, back, Put, put_first, put_next}
@@ -22,8 +20,6 @@ use Rattle.status.specs.Reply.{give, Replied}
 use Rattle.status.proofs.Checking.{else-none, else-right, unless-true}
 use Rattle.volume.specs.declared.Volume.{Volume}
 use Rattle.file_record.specs.declared.FileRecord.{FileRecord}
-use Rattle.file_record.specs.contracts.FileRecord.{the_row, the_type}
-use Rattle.file_record.proofs.FileRecord.TheLaws.{the_laws}
 use Rattle.reparse_point.specs.Reparse.{most_data, header_length, reparse_header, points_check, good_point, data_of, reparse_check, reparse_bytes}
 
 -- ---- the header
@@ -118,12 +114,6 @@ module _ (tag : ℕ) (guid bytes o out last : List ℕ) (at n : ℕ) (g : length
       (ap₂ ◌+◌ a (sym l ∙ ap length t), s.whole ∙ ap (λ (x : List ℕ). (reparse_header tag guid (length bytes) ++ x) ++ drop (at + n) o) t)
 
 -- ---- the reply
-
--- a file's GUID has 16 bytes; a parameter that holds the record tells it
-pub guid-size : (f : FileRecord) → Is the_row f (vals the_type the_laws f) → length f.guid ≡ 16
-guid-size f is =
-    let o = owed the_type the_laws f (vals the_type the_laws f) is in
-    sym (length-map f.guid (λ (x : ℕ). x)) ∙ o.1.1.1.1.1.1.0.1.0.1
 
 most-least : (tag : ℕ) → most_data tag ≤ 16376
 unfolding most_data
