@@ -24,7 +24,7 @@ returns-then-output-n c =
     ap₂ (λ (top file : ℕ). upward a.pool.now (rows a.table.now) top 64 file) c.key_of-top.ensures c.key_of-file.ensures in
     let a = c.args in
     subst (λ (w : Way). Replied (way_reply w (length a.output.now)) c.refused-then-output-n.result a.output.now a.output.now) same_way
-    (replied-small way c.measure-extent.result c.measure-extent.ensures c.refused-then-output-n.result a.output.now c.in-Bytes.n c.in-Bytes.is c.if-output-n.true c.refused-then-output-n.ensures)
+    (replied-small way c.measure-extent.result c.measure-extent.ensures c.refused-then-output-n.result a.output.now c.in-Bytes.n c.in-Bytes.is (omega arith) c.refused-then-output-n.ensures)
 
 -- the path fits
 pub put_path-requires : goal.put_path-requires
@@ -32,7 +32,7 @@ put_path-requires c =
     let way : Way =
     let a = c.args in
     upward a.pool.now (rows a.table.now) (key_number c.key_of-top.result) 64 (key_number c.key_of-file.result) in
-    (c.requires.0, c.requires.1, measured-fits way c.measure-extent.result c.measure-extent.ensures (record { status = Success; count = 0 }) c.args.output.now c.in-Bytes.n c.in-Bytes.is c.if-output-n.false)
+    (c.requires.0, c.requires.1, measured-fits way c.measure-extent.result c.measure-extent.ensures (record { status = Success; count = 0 }) c.args.output.now c.in-Bytes.n c.in-Bytes.is (omega arith))
 
 pub returns-in-Refused : goal.returns-in-Refused
 returns-in-Refused c =
@@ -56,5 +56,5 @@ returns-else-output-n c =
     ap₂ (λ (top file : ℕ). upward a.pool.now (rows a.table.now) top 64 file) c.key_of-top.ensures c.key_of-file.ensures in
     let a = c.args in
     subst (λ (v : Way). Replied (way_reply v (length a.output.now)) c.success.result a.output.now c.put_path.new.out) same_way
-    (replied-given way c.measure-extent.result c.measure-extent.ensures c.success.result a.output.now c.in-Bytes.n c.in-Bytes.is c.if-output-n.false
+    (replied-given way c.measure-extent.result c.measure-extent.ensures c.success.result a.output.now c.in-Bytes.n c.in-Bytes.is (omega arith)
     c.put_path.new.out c.put_path.result c.put_path.ensures c.success.ensures)
