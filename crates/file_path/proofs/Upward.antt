@@ -4,14 +4,14 @@ use mathlib.Core.Path.{◌≡◌, refl, sym, ap, ◌∙◌}
 use mathlib.Core.Bool.{Bool, true, false, cond}
 use mathlib.Core.List.{List, [], ◌∷◌, ◌++◌, append_assoc}
 use mathlib.Core.Option.{Option, none, some}
-use Prim.Native.Nat.{ℕ, zero, suc, ◌+◌}
+use Prim.Native.Nat.{ℕ, zero, suc}
 use native.Mathlib.Omega.{arith}
 use lib.Dec.{eqb}
 use Rattle.status.specs.declared.Status.{Status}
 use Rattle.status.specs.declared.Status.TheVariants.{ObjectPathNotFound, NameTooLong}
 use Rattle.file_ids.specs.Ids.{id_number}
 use Rattle.file_table.specs.Table.{Row, row_name, find}
-use Rattle.file_path.specs.Path.{Way, reached, stopped, below, step, upward, separator, joined}
+use Rattle.file_path.specs.Path.{Way, reached, stopped, below, upward, separator, joined}
 use Rattle.file_path.specs.Steps.{is_reached, path_of}
 
 -- ---- joined names

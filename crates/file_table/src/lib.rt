@@ -42,6 +42,138 @@ pub enum Order {
 
 // ---- Ids.
 
+// Whether the row at `a` has a lower id than the one at `b`.
+pub fn is_below(table: &[u8], a: usize, b: usize) -> bool
+    requires { (a + 56 ≤ length table.now) × (b + 56 ≤ length table.now) }
+    ensures { result ≡ ltb (id_at table.now a) (id_at table.now b) }
+{
+    let x = le::get(table, a + 8, 8);
+    let y = le::get(table, b + 8, 8);
+    if x != y {
+        return x < y;
+    }
+    le::get(table, a, 8) < le::get(table, b, 8)
+}
+
+// Whether the rows at `a` and `b` have the same id.
+fn is_same(table: &[u8], a: usize, b: usize) -> bool
+    requires { (a + 56 ≤ length table.now) × (b + 56 ≤ length table.now) }
+    ensures { result ≡ eqb (id_at table.now b) (id_at table.now a) }
+{
+    if le::get(table, a, 8) != le::get(table, b, 8) {
+        return false;
+    }
+    le::get(table, a + 8, 8) == le::get(table, b + 8, 8)
+}
+
+// Whether each id is above the one before it.
+fn rises(table: &[u8]) -> bool
+    ensures { result ≡ rising (rows table.now) }
+{
+    let mut at = 0;
+    while ROW + ROW <= table.len() - at {
+        let next = at + ROW;
+        if !is_below(table, at, next) {
+            return false;
+        }
+        at = next;
+    }
+    true
+}
+
+// Whether the id of the row at `at` stands in a row behind it too.
+fn has_duplicate(table: &[u8], at: usize) -> bool
+    requires { at + 56 ≤ length table.now }
+    ensures { result ≡ has_id (id_at table.now at) (rows (drop (at + 56) table.now)) }
+{
+    let mut next = at + ROW;
+    while ROW <= table.len() - next {
+        if is_same(table, at, next) {
+            return true;
+        }
+        next += ROW;
+    }
+    false
+}
+
+// Whether an id stands twice: each is looked for in all rows behind it.
+fn has_duplicates(table: &[u8]) -> bool
+    ensures { not result ≡ distinct (rows table.now) }
+{
+    let mut at = 0;
+    while ROW <= table.len() - at {
+        if has_duplicate(table, at) {
+            return true;
+        }
+        at += ROW;
+    }
+    false
+}
+
+// ---- The judgement.
+
+// Whether the id of the row at `at` is the number 2^64-1.
+fn is_last(table: &[u8], at: usize) -> bool
+    requires { at + 56 ≤ length table.now }
+    ensures { result ≡ eqb (id_at table.now at) 0xFFFF_FFFF_FFFF_FFFF }
+{
+    if le::get(table, at, 8) != 0xFFFF_FFFF_FFFF_FFFF {
+        return false;
+    }
+    le::get(table, at + 8, 8) == 0
+}
+
+// Whether the row at `at` has a good name, a Usn that is not negative, and an id other than 2^64-1.
+fn good_row(pool: &[u8], table: &[u8], at: usize) -> bool
+    requires { at + 56 ≤ length table.now }
+    ensures { result ≡ good_row pool.now (row_at table.now at) }
+{
+    if 0x8000_0000_0000_0000 <= le::get(table, at + USN, 8) {
+        return false;
+    }
+    if is_last(table, at) {
+        return false;
+    }
+    let place = le::get(table, at + PLACE, 8);
+    let length = le::get(table, at + LENGTH, 4);
+    good_in(pool, place, length as u32)
+}
+
+// Whether every row is good.
+fn good_rows(pool: &[u8], table: &[u8]) -> bool
+    ensures { result ≡ good_rows pool.now (rows table.now) }
+{
+    let mut at = 0;
+    while ROW <= table.len() - at {
+        if !good_row(pool, table, at) {
+            return false;
+        }
+        at += ROW;
+    }
+    true
+}
+
+// Judges a table. Where ids rise, none stands twice.
+pub fn judge_table(pool: &[u8], table: &[u8]) -> Order
+    ensures { result ≡ order_of pool.now table.now }
+{
+    if table.len() % ROW != 0 {
+        return Order::Bad;
+    }
+    if !good_rows(pool, table) {
+        return Order::Bad;
+    }
+    if rises(table) {
+        return Order::Rising;
+    }
+    if has_duplicates(table) {
+        return Order::Bad;
+    }
+    Order::Mixed
+}
+
+// ---- Ids by their halves.
+
 // The id in the sixteen bytes from `at` on.
 pub fn key_at(table: &[u8], at: usize) -> Key
     requires { at + 16 ≤ length table.now }
@@ -81,116 +213,6 @@ pub fn is_equal(a: Key, b: Key) -> bool
         return false;
     }
     a.high == b.high
-}
-
-// Whether the row at `a` has a lower id than the one at `b`.
-pub fn is_below(table: &[u8], a: usize, b: usize) -> bool
-    requires { (a + 56 ≤ length table.now) × (b + 56 ≤ length table.now) }
-    ensures { result ≡ ltb (id_at table.now a) (id_at table.now b) }
-{
-    is_lower(key_at(table, a), key_at(table, b))
-}
-
-// ---- The order, and ids that stand twice.
-
-// Whether each id is above the one before it.
-fn rises(table: &[u8]) -> bool
-    ensures { result ≡ rising (rows table.now) }
-{
-    let mut at = 0;
-    while ROW + ROW <= table.len() - at {
-        let next = at + ROW;
-        if !is_below(table, at, next) {
-            return false;
-        }
-        at = next;
-    }
-    true
-}
-
-// Whether the id of the row at `at` stands in a row behind it too.
-fn has_duplicate(table: &[u8], at: usize) -> bool
-    requires { at + 56 ≤ length table.now }
-    ensures { result ≡ has_id (id_at table.now at) (rows (drop (at + 56) table.now)) }
-{
-    let key = key_at(table, at);
-    let mut next = at + ROW;
-    while ROW <= table.len() - next {
-        if is_equal(key_at(table, next), key) {
-            return true;
-        }
-        next += ROW;
-    }
-    false
-}
-
-// Whether an id stands twice: each is looked for in all rows behind it.
-fn has_duplicates(table: &[u8]) -> bool
-    ensures { not result ≡ distinct (rows table.now) }
-{
-    let mut at = 0;
-    while ROW <= table.len() - at {
-        if has_duplicate(table, at) {
-            return true;
-        }
-        at += ROW;
-    }
-    false
-}
-
-// ---- The judgement.
-
-// Whether the row at `at` has a good name, a Usn that is not negative, and an id other than 2^64-1.
-fn good_row(pool: &[u8], table: &[u8], at: usize) -> bool
-    requires { at + 56 ≤ length table.now }
-    ensures { result ≡ good_row pool.now (row_at table.now at) }
-{
-    if 0x8000_0000_0000_0000 <= le::get(table, at + USN, 8) {
-        return false;
-    }
-    let last = Key {
-        low: 0xFFFF_FFFF_FFFF_FFFF,
-        high: 0,
-    };
-    if is_equal(key_at(table, at), last) {
-        return false;
-    }
-    let place = le::get(table, at + PLACE, 8);
-    let length = le::get(table, at + LENGTH, 4);
-    good_in(pool, place, length as u32)
-}
-
-// Whether every row is good.
-fn good_rows(pool: &[u8], table: &[u8]) -> bool
-    ensures { result ≡ good_rows pool.now (rows table.now) }
-{
-    let mut at = 0;
-    while ROW <= table.len() - at {
-        if !good_row(pool, table, at) {
-            return false;
-        }
-        at += ROW;
-    }
-    true
-}
-
-// Judges a table. Where ids rise, none stands twice.
-pub fn judge_table(pool: &[u8], table: &[u8]) -> Order
-    ensures { result ≡ order_of pool.now table.now }
-{
-    if table.len() % ROW != 0 {
-        return Order::Bad;
-    }
-    if !good_rows(pool, table) {
-        return Order::Bad;
-    }
-    if rises(table) {
-        return Order::Rising;
-    }
-    if has_duplicates(table) {
-        return Order::Bad;
-    }
-    Order::Mixed
 }
 
 // ---- The row of an id.

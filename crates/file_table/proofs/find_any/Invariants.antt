@@ -1,0 +1,13 @@
+-- `find_any` meets its contract: the rows before have other ids.
+use mathlib.Core.Path.{◌≡◌}
+use Prim.Native.Nat.{◌-◌, ◌%◌, ◌≤◌}
+use lib.ListN.{length, drop}
+use Rattle.file_table.specs.Table.{key_number, rows, find}
+use Rattle.file_table.proofs.find_any.Given as goal
+
+abbrev pub invariant-loop-at : goal.invariant-loop-at
+invariant-loop-at l =
+    (l.at ≤ length l.table) × (l.at % 56 ≡ 0) × (find (key_number l.key) (rows l.table) ≡ find (key_number l.key) (rows (drop l.at l.table)))
+
+abbrev pub decreases-loop-at : goal.decreases-loop-at
+decreases-loop-at l = length l.table - l.at

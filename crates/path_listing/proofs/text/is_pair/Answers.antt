@@ -1,0 +1,11 @@
+-- `is_pair` meets its contract.
+use mathlib.Core.Path.{sym, ◌∙◌}
+use Rattle.path_listing.proofs.text.is_pair.Goals as goal
+
+pub returns-then-not-is_within : goal.returns-then-not-is_within
+returns-then-not-is_within c =
+    rw (sym c.is_within.ensures ∙ c.if-not-is_within.true)
+
+pub returns : goal.returns
+returns c =
+    rw (sym c.is_within.ensures ∙ c.if-not-is_within.false) c.is_within-2.ensures
