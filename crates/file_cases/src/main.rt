@@ -201,10 +201,7 @@ fn run_file(rt: &(impl Env + Files + Print + Eprint), i: usize) {
 }
 
 fn main(rt: HostRuntime) {
-    let count = argument_count(&rt);
-    let mut i = 1;
-    while i < count {
+    for i in 1..argument_count(&rt) {
         run_file(&rt, i);
-        i += 1;
     }
 }

@@ -30,8 +30,7 @@ const INVALID: i32 = 22;
 // Closes a file. The system is not asked what came of that: what has to be on the disk is flushed before.
 pub fn close(_file: impl Drop)
     ensures { Unit {0} }
-{
-}
+{}
 
 pub fn remove(rt: &(impl Files + Eprint), name: &[u8])
     ensures { Unit {0} }
@@ -133,13 +132,7 @@ fn replace(rt: &(impl Files + Eprint), fresh: &[u8], to: &[u8]) -> bool {
 }
 
 // Closes the fresh file, and gives it the name `to` if it is whole.
-fn settle<R: Files + Eprint>(
-    rt: &R,
-    file: R::File,
-    whole: bool,
-    fresh: &[u8],
-    to: &[u8],
-) -> bool {
+fn settle<R: Files + Eprint>(rt: &R, file: R::File, whole: bool, fresh: &[u8], to: &[u8]) -> bool {
     close(file);
     whole && replace(rt, fresh, to)
 }

@@ -5,12 +5,11 @@
 ghost use Rattle.std.specs.Prelude.{◌≡◌, ◌≤◌, length, IfOk};
 
 use std::env::{Env, FillError};
-use std::fmt::{Display, Formatter};
+use std::fmt::{Display, Formatter, Write};
 use std::fs::File;
 use std::io::Error;
 use std::rt::Files;
 use std::{fmt, io, str};
-use std::fmt::Write;
 
 // ---- The arguments.
 

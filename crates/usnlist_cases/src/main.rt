@@ -26,10 +26,7 @@ fn list_argument(rt: &(impl Env + Files + Print + Eprint), i: usize) {
 }
 
 fn main(rt: HostRuntime) {
-    let count = argument_count(&rt);
-    let mut i = 1;
-    while i < count {
+    for i in 1..argument_count(&rt) {
         list_argument(&rt, i);
-        i += 1;
     }
 }
