@@ -53,14 +53,7 @@ pub fn created(n: usize) -> Volume
 }
 
 // Posts a change and prints its Usn.
-fn post(
-    rt: &impl Print,
-    v: Volume,
-    ring: &mut [u8],
-    file: u64,
-    reason: u32,
-    name: &[u8],
-) -> Volume
+fn post(rt: &impl Print, v: Volume, ring: &mut [u8], file: u64, reason: u32, name: &[u8]) -> Volume
     ensures { (record { volume = result; ring = ring.new }) ≡ after_post (record { volume = v; ring = ring.old }) (posting file reason name.now) }
 {
     let c = Change {
@@ -105,13 +98,7 @@ fn post_change(rt: &impl Print, v: Volume, ring: &mut [u8], i: usize) -> Volume
 }
 
 // Posts changes `from` to `to` of one update after the other.
-pub fn post_changes(
-    rt: &impl Print,
-    v: Volume,
-    ring: &mut [u8],
-    from: usize,
-    to: usize,
-) -> Volume
+pub fn post_changes(rt: &impl Print, v: Volume, ring: &mut [u8], from: usize, to: usize) -> Volume
     ensures { (record { volume = result; ring = ring.new }) ≡ updated (record { volume = v; ring = ring.old }) from to }
 {
     let mut w = v;
