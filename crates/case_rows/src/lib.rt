@@ -4,9 +4,10 @@
 ghost use Rattle.std.specs.Prelude.{◌≡◌, ◌%◌, ◌≤◌, ◌^◌, min, length};
 ghost use Rattle.case_rows.specs.Rows.{number_in, digest_from};
 
-use libc::STDOUT_FILENO;
-use list_input::Input;
+use program_io::{argument, fail};
 use status::{Status, status_number};
+use std::env::Env;
+use std::rt::Files;
 
 // The bytes of a row.
 pub const ROW: usize = 72;
@@ -56,47 +57,45 @@ pub fn digest(s: &[u8]) -> u64
     d % 4294967291
 }
 
-// Prints some text. No contract can speak of what the system writes; the same holds of the functions below.
-pub fn print(text: &[u8])
+// Prints some text. No contract can speak of what the system writes; the same holds of the functions below. Where a write fails, nothing
+// more is done about it.
+pub fn print(rt: &impl Print, text: &[u8])
     ensures { Unit {0} }
 {
-    io::write_all(STDOUT_FILENO, text);
+    let _ = rt.write_all(text);
 }
 
 // Prints a space and a number in decimal.
-pub fn print_number(value: u64)
+pub fn print_number(rt: &impl Print, value: u64)
     ensures { Unit {0} }
 {
-    print(b" ");
-    io::print_decimal(STDOUT_FILENO, value);
+    let _ = print!(rt; " {value}");
 }
 
 // Prints a space and a status's number in hex.
-pub fn print_status(s: Status)
+pub fn print_status(rt: &impl Print, s: Status)
     ensures { Unit {0} }
 {
-    print(b" ");
-    io::print_hex(STDOUT_FILENO, status_number(s) as u64, 8);
+    let number = status_number(s);
+    let _ = print!(rt; " {number:08x}");
 }
 
-// Prints the name of argument i, and reads the file of that name; says how many bytes it has.
-pub fn read_argument(i: usize, buf: &mut [u8]) -> usize
+// Prints the name of argument i, and reads the file of that name; says how many bytes it has. It says 0 where the file cannot be read, and
+// where it cannot be opened that is told on standard error.
+pub fn read_argument(rt: &(impl Env + Files + Print + Eprint), i: usize, buf: &mut [u8]) -> usize
     ensures { result ≤ length buf.old }
 {
-    let mut path = io::buffer();
-    let n = os::arg(i, &mut path);
-    print(b"# ");
-    print(&path[..n]);
-    print(b"\n");
-    let fd = os::open_read(&path[..n]);
-    if fd < 0 {
-        os::fail(&path[..n]);
-        return 0;
-    }
-    let input = list_input::read_all(fd, buf);
-    libc::close(fd);
-    match input {
-        Input::Bytes(count) => count,
-        Input::Failed => 0,
-    }
+    let mut path = [0u8; 4096];
+    let n = argument(rt, i, &mut path);
+    print(rt, b"# ");
+    print(rt, &path[..n]);
+    print(rt, b"\n");
+    let mut file = match program_io::open(rt, &path[..n]) {
+        Ok(file) => file,
+        Err(error) => {
+            fail(rt, &path[..n], error);
+            return 0;
+        }
+    };
+    list_input::read_all(&mut file, buf).unwrap_or(0)
 }

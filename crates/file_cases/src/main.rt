@@ -7,18 +7,21 @@ ghost use Rattle.std.specs.Prelude.{◌≤◌};
 use case_rows::{ROW, digest, number, print, print_number, print_status, size, word};
 use file_ids::id_of;
 use file_record::FileRecord;
+use program_io::argument_count;
 use status::Answer;
+use std::env::Env;
+use std::rt::Files;
 use volume::Volume;
 
 // Prints status, count and a digest of the whole output.
-fn told(label: &[u8], answer: Answer, output: &[u8]) {
+fn told(rt: &impl Print, label: &[u8], answer: Answer, output: &[u8]) {
     let s = answer.status;
     let count = answer.count;
-    print(label);
-    print_status(s);
-    print_number(count as u64);
-    print_number(digest(output));
-    print(b"\n");
+    print(rt, label);
+    print_status(rt, s);
+    print_number(rt, count as u64);
+    print_number(rt, digest(output));
+    print(rt, b"\n");
 }
 
 // Fills a buffer with bytes that differ from their neighbours.
@@ -63,7 +66,7 @@ fn file(usn: u64, attributes: u32, eof: u64, valid: u64, tag: u32, length: u64) 
 }
 
 // Regions: support, eof, valid data length, the input's length, offset, length, usage, room.
-fn regions(row: &[u8], output: &mut [u8]) {
+fn regions(rt: &impl Print, row: &[u8], output: &mut [u8]) {
     let mut input = [0u8; 32];
     le::put_two(&mut input, 8, number(row, 5), number(row, 6));
     le::put(&mut input[16..], 4, number(row, 7));
@@ -72,16 +75,16 @@ fn regions(row: &[u8], output: &mut [u8]) {
     let v = volume(0, word(row, 1), 0, 0);
     let f = file(0, 0, number(row, 2), number(row, 3), 0, 0);
     let answer = file_regions::query_file_regions(v, f, &input[..wide], &mut output[..room]);
-    told(b"regions", answer, output);
+    told(rt, b"regions", answer, output);
 }
 
 // Reparse point: both support flags, tag, the data's length, room.
-fn reparse(row: &[u8], store: &[u8], output: &mut [u8]) {
+fn reparse(rt: &impl Print, row: &[u8], store: &[u8], output: &mut [u8]) {
     let room = size(row, 5, output.len());
     let v = volume(0, 0, word(row, 1), word(row, 2));
     let f = file(0, 0, 0, 0, word(row, 3), number(row, 4));
     let answer = reparse_point::get_reparse_point(v, f, store, &mut output[..room]);
-    told(b"reparse", answer, output);
+    told(rt, b"reparse", answer, output);
 }
 
 // Takes number i of each row of a table.
@@ -102,7 +105,7 @@ fn column(table: &[u8], i: usize, out: &mut [u32])
 
 // USN data: support, usn, attributes, parent, the input's length, both versions, room, and how many short lengths are lent. The
 // rows of the table have the place and length of each link's name and the length of its short name.
-fn usn(row: &[u8], table: &[u8], pool: &[u8], output: &mut [u8]) {
+fn usn(rt: &impl Print, row: &[u8], table: &[u8], pool: &[u8], output: &mut [u8]) {
     let mut places = [0u32; 16];
     let mut lengths = [0u32; 16];
     let mut shorts = [0u32; 16];
@@ -111,10 +114,11 @@ fn usn(row: &[u8], table: &[u8], pool: &[u8], output: &mut [u8]) {
     column(table, 2, &mut shorts);
     let count = table.len() / ROW;
     let n = if count < 16 { count } else { 16 };
-    usn_of(row, pool, &places[..n], &lengths[..n], &shorts[..n], output);
+    usn_of(rt, row, pool, &places[..n], &lengths[..n], &shorts[..n], output);
 }
 
 fn usn_of(
+    rt: &impl Print,
     row: &[u8],
     pool: &[u8],
     places: &[u32],
@@ -141,33 +145,33 @@ fn usn_of(
         &input[..wide],
         &mut output[..room],
     );
-    told(b"usn", answer, output);
+    told(rt, b"usn", answer, output);
 }
 
-fn call(row: &[u8], table: &[u8], pool: &[u8], output: &mut [u8]) {
+fn call(rt: &impl Print, row: &[u8], table: &[u8], pool: &[u8], output: &mut [u8]) {
     pattern(output, 7);
     let kind = number(row, 0);
     match kind {
-        0 => regions(row, output),
-        1 => reparse(row, pool, output),
-        _ => usn(row, table, pool, output),
+        0 => regions(rt, row, output),
+        1 => reparse(rt, row, pool, output),
+        _ => usn(rt, row, table, pool, output),
     }
 }
 
-fn run(rows: &[u8], table: &[u8], pool: &[u8], output: &mut [u8]) {
+fn run(rt: &impl Print, rows: &[u8], table: &[u8], pool: &[u8], output: &mut [u8]) {
     let mut at = 0;
     while at < rows.len() {
         if rows.len() - at < ROW {
             return;
         }
         let end = at + ROW;
-        call(&rows[at..end], table, pool, output);
+        call(rt, &rows[at..end], table, pool, output);
         at = end;
     }
 }
 
 // The first row has the number of links and the lengths of pool and output; then come the links, then the calls.
-fn run_rows(rows: &[u8]) {
+fn run_rows(rt: &impl Print, rows: &[u8]) {
     if rows.len() < ROW {
         return;
     }
@@ -176,12 +180,13 @@ fn run_rows(rows: &[u8]) {
     if rows.len() < table {
         return;
     }
-    let mut pool = io::large_buffer();
+    let mut pool = [0u8; 65536];
     pattern(&mut pool, 3);
-    let mut output = io::large_buffer();
+    let mut output = [0u8; 65536];
     let n = size(rows, 1, 65536);
     let room = size(rows, 2, 65536);
     run(
+        rt,
         &rows[table..],
         &rows[ROW..table],
         &pool[..n],
@@ -189,17 +194,14 @@ fn run_rows(rows: &[u8]) {
     );
 }
 
-fn run_file(i: usize) {
-    let mut rows = io::large_buffer();
-    let n = case_rows::read_argument(i, &mut rows);
-    run_rows(&rows[..n]);
+fn run_file(rt: &(impl Env + Files + Print + Eprint), i: usize) {
+    let mut rows = [0u8; 65536];
+    let n = case_rows::read_argument(rt, i, &mut rows);
+    run_rows(rt, &rows[..n]);
 }
 
-fn main() {
-    let count = os::arg_count();
-    let mut i = 1;
-    while i < count {
-        run_file(i);
-        i += 1;
+fn main(rt: HostRuntime) {
+    for i in 1..argument_count(&rt) {
+        run_file(&rt, i);
     }
 }

@@ -6,22 +6,22 @@ use update_steps::{CHANGES, ID, START, created, post_changes, read_on, read_once
 use volume::Volume;
 
 // The update with the reader cut off after its first reply. Before it returns, the server posts changes up to number `to`.
-fn follow(ring: &mut [u8], to: usize) {
-    print(b"-- the update begins\n");
-    let v: Volume = post_changes(created(ring.len()), ring, 0, 4);
-    print(b"-- the service reads, and is cut off\n");
-    let at = read_once(v, ring, ID, START);
-    print(b"-- the server goes on\n");
-    let w = post_changes(v, ring, 4, to);
-    print(b"-- the service returns with its last position\n");
-    read_on(w, ring, ID, at);
+fn follow(rt: &impl Print, ring: &mut [u8], to: usize) {
+    print(rt, b"-- the update begins\n");
+    let v: Volume = post_changes(rt, created(ring.len()), ring, 0, 4);
+    print(rt, b"-- the service reads, and is cut off\n");
+    let at = read_once(rt, v, ring, ID, START);
+    print(rt, b"-- the server goes on\n");
+    let w = post_changes(rt, v, ring, 4, to);
+    print(rt, b"-- the service returns with its last position\n");
+    read_on(rt, w, ring, ID, at);
 }
 
-fn main() {
-    print(b"A ring of 4,096 bytes\n");
+fn main(rt: HostRuntime) {
+    print(&rt, b"A ring of 4,096 bytes\n");
     let mut large = [0u8; 4096];
-    follow(&mut large, CHANGES);
-    print(b"A ring of 1,024 bytes, and a second update\n");
+    follow(&rt, &mut large, CHANGES);
+    print(&rt, b"A ring of 1,024 bytes, and a second update\n");
     let mut small = [0u8; 1024];
-    follow(&mut small, 2 * CHANGES);
+    follow(&rt, &mut small, 2 * CHANGES);
 }

@@ -8,20 +8,23 @@ ghost use Rattle.std.specs.Prelude.{length, ◌≤◌};
 use case_rows::{ROW, digest, number, print, print_number, print_status, size, word};
 use file_ids::id_of;
 use journal_post::Change;
+use program_io::argument_count;
 use status::Answer;
+use std::env::Env;
+use std::rt::Files;
 use volume::{Outcome, Volume};
 
 // Prints a call's status and the volume record that it leaves, and hands the record on.
-fn told(label: &[u8], outcome: Outcome) -> Volume {
+fn told(rt: &impl Print, label: &[u8], outcome: Outcome) -> Volume {
     let v = outcome.volume;
     let s = outcome.status;
-    print(label);
-    print_status(s);
-    print_number(v.state as u64);
-    print_number(v.id);
-    print_number(v.first);
-    print_number(v.last);
-    print(b"\n");
+    print(rt, label);
+    print_status(rt, s);
+    print_number(rt, v.state as u64);
+    print_number(rt, v.id);
+    print_number(rt, v.first);
+    print_number(rt, v.last);
+    print(rt, b"\n");
     v
 }
 
@@ -49,14 +52,14 @@ fn change(row: &[u8]) -> Change {
 }
 
 // Prints the file's USN and a digest of the ring.
-fn print_file(usn: u64, ring: &[u8]) {
-    print(b"file");
-    print_number(usn);
-    print_number(digest(ring));
+fn print_file(rt: &impl Print, usn: u64, ring: &[u8]) {
+    print(rt, b"file");
+    print_number(rt, usn);
+    print_number(rt, digest(ring));
 }
 
 // Posts a change: reason, attributes, the name's length and its first letter.
-fn post(v: Volume, ring: &mut [u8], row: &[u8]) -> Volume {
+fn post(rt: &impl Print, v: Volume, ring: &mut [u8], row: &[u8]) -> Volume {
     let mut name = [0u8; 520];
     let first = (number(row, 4) % 26) as usize;
     letters(&mut name, first);
@@ -64,8 +67,8 @@ fn post(v: Volume, ring: &mut [u8], row: &[u8]) -> Volume {
     let mut usn = 5;
     let c = change(row);
     let outcome = journal_post::post(v, ring, c, &name[..n], &mut usn);
-    print_file(usn, ring);
-    told(b" post", outcome)
+    print_file(rt, usn, ring);
+    told(rt, b" post", outcome)
 }
 
 // Lays out a read's input: start, mask, only-on-close, id, min, max.
@@ -85,21 +88,21 @@ fn put_tail(input: &mut [u8], row: &[u8])
 }
 
 // Prints what a read answers, the output's first number and a digest of the whole output.
-fn print_read(answer: Answer, output: &[u8])
+fn print_read(rt: &impl Print, answer: Answer, output: &[u8])
     requires { 8 ≤ length output.now }
 {
     let s = answer.status;
     let count = answer.count;
-    print(b"read");
-    print_status(s);
-    print_number(count as u64);
-    print_number(le::get(output, 0, 8));
-    print_number(digest(output));
-    print(b"\n");
+    print(rt, b"read");
+    print_status(rt, s);
+    print_number(rt, count as u64);
+    print_number(rt, le::get(output, 0, 8));
+    print_number(rt, digest(output));
+    print(rt, b"\n");
 }
 
 // Reads into an output of bytes that are set already, so that the digest tells which of them the read wrote.
-fn read_into(v: Volume, ring: &[u8], row: &[u8], output: &mut [u8])
+fn read_into(rt: &impl Print, v: Volume, ring: &[u8], row: &[u8], output: &mut [u8])
     requires { 8 ≤ length output.old }
 {
     let mut input = [0u8; 64];
@@ -107,13 +110,13 @@ fn read_into(v: Volume, ring: &[u8], row: &[u8], output: &mut [u8])
     let wide = size(row, 7, 64);
     let room = size(row, 8, output.len());
     let answer = journal_read::read_journal(v, ring, &input[..wide], &mut output[..room]);
-    print_read(answer, output);
+    print_read(rt, answer, output);
 }
 
 // Reads: start, mask, only-on-close, id, min, max, the input's length and the output's.
-fn read(v: Volume, ring: &[u8], row: &[u8]) {
+fn read(rt: &impl Print, v: Volume, ring: &[u8], row: &[u8]) {
     let mut output = [0xEEu8; 4096];
-    read_into(v, ring, row, &mut output);
+    read_into(rt, v, ring, row, &mut output);
 }
 
 // Sets what the server or an accident may change in the volume record.
@@ -137,15 +140,15 @@ fn flip(ring: &mut [u8], at: usize) {
 }
 
 // One row: create, delete, finish, post, read, set or flip.
-fn call(v: Volume, ring: &mut [u8], row: &[u8]) -> Volume {
+fn call(rt: &impl Print, v: Volume, ring: &mut [u8], row: &[u8]) -> Volume {
     let kind = number(row, 0);
     match kind {
-        0 => told(b"create", volume::create(v, number(row, 1))),
-        1 => told(b"delete", volume::delete(v, number(row, 1))),
-        2 => told(b"finish", volume::finish(v)),
-        3 => post(v, ring, row),
+        0 => told(rt, b"create", volume::create(v, number(row, 1))),
+        1 => told(rt, b"delete", volume::delete(v, number(row, 1))),
+        2 => told(rt, b"finish", volume::finish(v)),
+        3 => post(rt, v, ring, row),
         4 => {
-            read(v, ring, row);
+            read(rt, v, ring, row);
             v
         }
         5 => set(v, number(row, 1), number(row, 2)),
@@ -157,7 +160,7 @@ fn call(v: Volume, ring: &mut [u8], row: &[u8]) -> Volume {
 }
 
 // Runs all rows on a ring, from a volume that supports its journal and is idle at LastUsn `last`.
-fn run(rows: &[u8], ring: &mut [u8], last: u64) {
+fn run(rt: &impl Print, rows: &[u8], ring: &mut [u8], last: u64) {
     let mut v = Volume {
         usn: 0,
         regions: 0,
@@ -176,29 +179,26 @@ fn run(rows: &[u8], ring: &mut [u8], last: u64) {
             return;
         }
         let end = at + ROW;
-        v = call(v, ring, &rows[at..end]);
+        v = call(rt, v, ring, &rows[at..end]);
         at = end;
     }
 }
 
 // The first row of a file has the ring's length and LastUsn.
-fn run_file(i: usize) {
-    let mut rows = io::large_buffer();
-    let n = case_rows::read_argument(i, &mut rows);
+fn run_file(rt: &(impl Env + Files + Print + Eprint), i: usize) {
+    let mut rows = [0u8; 65536];
+    let n = case_rows::read_argument(rt, i, &mut rows);
     if n < ROW {
         return;
     }
-    let mut ring = io::large_buffer();
+    let mut ring = [0u8; 65536];
     let capacity = size(&rows, 0, 65536);
     let last = number(&rows, 1);
-    run(&rows[ROW..n], &mut ring[..capacity], last);
+    run(rt, &rows[ROW..n], &mut ring[..capacity], last);
 }
 
-fn main() {
-    let count = os::arg_count();
-    let mut i = 1;
-    while i < count {
-        run_file(i);
-        i += 1;
+fn main(rt: HostRuntime) {
+    for i in 1..argument_count(&rt) {
+        run_file(&rt, i);
     }
 }

@@ -1,14 +1,16 @@
-// Reads a reply from a descriptor and writes its listing to standard output.
+// Reads a reply and writes its listing to standard output.
 #![tactic(auto)]
 
-ghost use Rattle.std.specs.Prelude.{List, ℕ, ◌+◌, ◌*◌, ◌≤◌, ◌<◌, length};
+ghost use Rattle.std.specs.Prelude.{List, ℕ, ◌+◌, ◌*◌, ◌≤◌, ◌<◌, length, IfOk};
 ghost use Rattle.status.specs.declared.Status.TheVariants.{Success};
 ghost use Rattle.status.specs.Reply.{give, Replied};
 ghost use Rattle.usn_listing.specs.Listing.{listing};
-ghost use Rattle.list_input.specs.Input.{Within, ReadInto};
+ghost use Rattle.list_input.specs.Input.{ReadInto};
 
-use libc::STDOUT_FILENO;
+use program_io::fail;
 use status::Answer;
+use std::io;
+use std::io::Read;
 
 // What reading an input found: how many bytes came, at most the buffer's length, or that a read failed.
 #[derive(Clone, Copy)]
@@ -17,24 +19,21 @@ pub enum Input {
     Failed,
 }
 
-// Reads until the input ends or `buf` is full, in as many reads as that takes. Which bytes come no contract can say, so it
-// says only that they lie in the buffer.
-pub fn read_all(fd: i32, buf: &mut [u8]) -> Input
-    ensures { Within (length buf.old) result }
+// Reads until the input ends or `buf` is full, in as many reads as that takes, and says how many bytes came. Which bytes come no contract
+// can say, so it says only that they lie in the buffer. The only error is that of a read: then bytes may have come before it, as many as
+// nobody knows.
+pub fn read_all(source: &mut impl Read, buf: &mut [u8]) -> io::Result<usize>
+    ensures { IfOk result (λ n. n ≤ length buf.old) }
 {
     let mut done = 0;
     while done < buf.len() {
-        let got = libc::read(fd, &mut buf[done..]);
-        if got < 0 {
-            return Input::Failed;
-        }
-        let n = io::count(got, &buf[done..]);
+        let n = source.read(&mut buf[done..])?;
         if n == 0 {
-            return Input::Bytes(done);
+            return Ok(done);
         }
         done += n;
     }
-    Input::Bytes(done)
+    Ok(done)
 }
 
 // Lists the input whose first n bytes stand in `buf`: all of it, or as much as `buf` takes. The buffer has more bytes than a reply
@@ -46,21 +45,23 @@ fn list_read(text: &mut [u8], buf: &[u8], n: usize) -> Answer
     usn_listing::list_reply(text, &buf[..n])
 }
 
-// Lists the reply that `fd` holds. No contract can speak of what the system reads or writes: all that is decided about the bytes
-// is `list_read`'s.
-pub fn list(fd: i32)
-    ensures* { ⊤ₛ }
+// Lists the reply that `source` holds. No contract can speak of what the system reads or writes: all that is decided about the bytes
+// is `list_read`'s. A read or a write that fails is told on standard error.
+pub fn list(rt: &(impl Print + Eprint), source: &mut impl Read)
+    ensures { Unit {0} }
 {
     let mut input = [0u8; 65537];
-    let read = read_all(fd, &mut input);
-    let Input::Bytes(n) = read else {
-        os::fail(b"read");
-        return;
+    let n = match read_all(source, &mut input) {
+        Ok(n) => n,
+        Err(error) => {
+            fail(rt, b"read", error);
+            return;
+        }
     };
     let mut text = [0u8; 131138];
     let answer = list_read(&mut text, &input, n);
     let count = answer.count;
-    if !io::write_all(STDOUT_FILENO, &text[..count]) {
-        os::fail(b"write");
+    if let Err(error) = rt.write_all(&text[..count]) {
+        fail(rt, b"write", error);
     }
 }

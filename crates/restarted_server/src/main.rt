@@ -4,10 +4,13 @@
 ghost use Rattle.std.specs.Prelude.{length, ◌*◌, ◌≤◌, ◌<◌};
 
 use case_rows::{print, print_number};
-use image_file::{close, remove, store};
+use image_file::{close, create_fresh, remove, store};
 use list_input::Input;
+use program_io::fail;
 use reply_walker::Walk;
 use status::Status;
+use std::random::RandomSource;
+use std::rt::Files;
 use update_steps::{
     CHANGES, ID, START, created, idle, post_changes, read_from, read_on, read_once,
 };
@@ -33,24 +36,24 @@ const CLOSE: u32 = 0x8000_0000;
 // ---- The file.
 
 // Takes a name in /tmp by an empty file, which the image is to replace: each run has a name of its own.
-fn take_name(name: &mut [u8]) -> bool {
-    let fd = os::create_temp(name);
-    if fd < 0 {
-        os::fail(b"create");
-        return false;
+fn take_name(rt: &(impl Files + RandomSource + Eprint), name: &mut [u8]) -> bool {
+    match create_fresh(rt, name) {
+        Ok(file) => {
+            close(file);
+            true
+        }
+        Err(error) => {
+            fail(rt, b"create", error);
+            false
+        }
     }
-    if !close(fd) {
-        remove(name);
-        return false;
-    }
-    true
 }
 
 // Reads the file into `image`, and says how many bytes it has; 0 if that failed.
-fn fetch(name: &[u8], image: &mut [u8]) -> usize
+fn fetch(rt: &(impl Files + Eprint), name: &[u8], image: &mut [u8]) -> usize
     ensures { result ≤ length image.old }
 {
-    let input = image_file::fetch(name, image);
+    let input = image_file::fetch(rt, name, image);
     match input {
         Input::Bytes(n) => n,
         Input::Failed => 0,
@@ -60,20 +63,25 @@ fn fetch(name: &[u8], image: &mut [u8]) -> usize
 // ---- The server.
 
 // Saves the journal under a name.
-fn save(v: Volume, ring: &[u8], name: &[u8]) -> bool {
+fn save(
+    rt: &(impl Files + RandomSource + Print + Eprint),
+    v: Volume,
+    ring: &[u8],
+    name: &[u8],
+) -> bool {
     let mut image = [0u8; ROOM];
     let answer = image_save::save_journal(v, ring, FORM, &mut image);
     let n = answer.count;
     if n == 0 {
-        print(b"refused\n");
+        print(rt, b"refused\n");
         return false;
     }
-    if !store(&image[..n], name) {
+    if !store(rt, &image[..n], name) {
         return false;
     }
-    print(b"saved");
-    print_number(n as u64);
-    print(b" bytes\n");
+    print(rt, b"saved");
+    print_number(rt, n as u64);
+    print(rt, b" bytes\n");
     true
 }
 
@@ -129,34 +137,34 @@ fn refused_changes(v: Volume, ring: &mut [u8], image: &mut [u8]) -> usize
 }
 
 // Prints what became of n images.
-fn print_offers(label: &[u8], n: usize, refused: usize)
+fn print_offers(rt: &impl Print, label: &[u8], n: usize, refused: usize)
     requires { refused ≤ n }
 {
-    print(label);
-    print_number(refused as u64);
-    print(b" refused,");
-    print_number((n - refused) as u64);
-    print(b" loaded\n");
+    print(rt, label);
+    print_number(rt, refused as u64);
+    print(rt, b" refused,");
+    print_number(rt, (n - refused) as u64);
+    print(rt, b" loaded\n");
 }
 
 // Offers images that an accident may leave of this one.
-fn offer_damaged(v: Volume, ring: &mut [u8], image: &mut [u8])
+fn offer_damaged(rt: &impl Print, v: Volume, ring: &mut [u8], image: &mut [u8])
     requires { length image.old ≤ 4128 }
 {
     let n = image.len();
-    print_offers(b"cut at each byte:", n, refused_parts(v, ring, image));
-    print_offers(b"one bit changed:", 8 * n, refused_changes(v, ring, image));
+    print_offers(rt, b"cut at each byte:", n, refused_parts(v, ring, image));
+    print_offers(rt, b"one bit changed:", 8 * n, refused_changes(v, ring, image));
 }
 
 // Prints where a journal begins and ends.
-fn print_journal(v: Volume) {
-    print(b"id");
-    print_number(v.id);
-    print(b", first");
-    print_number(v.first);
-    print(b", last");
-    print_number(v.last);
-    print(b"\n");
+fn print_journal(rt: &impl Print, v: Volume) {
+    print(rt, b"id");
+    print_number(rt, v.id);
+    print(rt, b", first");
+    print_number(rt, v.first);
+    print(rt, b", last");
+    print_number(rt, v.last);
+    print(rt, b"\n");
 }
 
 // ---- The service.
@@ -175,83 +183,83 @@ fn closed(v: Volume, ring: &[u8]) -> usize {
 }
 
 // The update counts as done once each of its files is closed.
-fn print_done(v: Volume, ring: &[u8]) {
+fn print_done(rt: &impl Print, v: Volume, ring: &[u8]) {
     let n = closed(v, ring);
-    print(b"closed");
-    print_number(n as u64);
+    print(rt, b"closed");
+    print_number(rt, n as u64);
     if n < 3 {
-        print(b" of 3 files: the update is not done\n");
+        print(rt, b" of 3 files: the update is not done\n");
     } else {
-        print(b" of 3 files: the update is done\n");
+        print(rt, b" of 3 files: the update is done\n");
     }
 }
 
 // ---- The incident.
 
 // Up to the loss of power. The service's last position, or 0 if the journal is not saved.
-fn before(name: &[u8]) -> u64 {
+fn before(rt: &(impl Files + RandomSource + Print + Eprint), name: &[u8]) -> u64 {
     let mut ring = [0u8; CAPACITY];
-    print(b"-- the update begins\n");
-    let v = post_changes(created(CAPACITY), &mut ring, 0, BEFORE);
-    print(b"-- the service reads, and is cut off\n");
-    let at = read_once(v, &ring, ID, START);
-    print(b"-- the server saves the journal, and loses its power\n");
-    if !save(v, &ring, name) {
+    print(rt, b"-- the update begins\n");
+    let v = post_changes(rt, created(CAPACITY), &mut ring, 0, BEFORE);
+    print(rt, b"-- the service reads, and is cut off\n");
+    let at = read_once(rt, v, &ring, ID, START);
+    print(rt, b"-- the server saves the journal, and loses its power\n");
+    if !save(rt, v, &ring, name) {
         return 0;
     }
     at
 }
 
 // From the service's return to the end of the update.
-fn finish(v: Volume, ring: &mut [u8], start: u64) {
-    print(b"-- the service returns with the old id\n");
-    read_once(v, ring, ID, start);
-    print(b"-- it asks for the new id, and goes on from its last position\n");
-    let at = read_on(v, ring, v.id, start);
-    print_done(v, ring);
-    print(b"-- the server finishes the update\n");
-    let w = post_changes(v, ring, BEFORE, CHANGES);
-    print(b"-- the service reads on\n");
-    read_on(w, ring, w.id, at);
-    print_done(w, ring);
+fn finish(rt: &impl Print, v: Volume, ring: &mut [u8], start: u64) {
+    print(rt, b"-- the service returns with the old id\n");
+    read_once(rt, v, ring, ID, start);
+    print(rt, b"-- it asks for the new id, and goes on from its last position\n");
+    let at = read_on(rt, v, ring, v.id, start);
+    print_done(rt, v, ring);
+    print(rt, b"-- the server finishes the update\n");
+    let w = post_changes(rt, v, ring, BEFORE, CHANGES);
+    print(rt, b"-- the service reads on\n");
+    read_on(rt, w, ring, w.id, at);
+    print_done(rt, w, ring);
 }
 
 // From the start of the server on, with a service that stands at `start`. The ring is lost: other bytes stand there.
-fn restart(image: &mut [u8], start: u64)
+fn restart(rt: &impl Print, image: &mut [u8], start: u64)
     requires { length image.old ≤ 4128 }
 {
     let mut ring = [0xEEu8; CAPACITY];
     let v = idle(CAPACITY, 0);
-    print(b"-- the server starts, and is offered a damaged file\n");
-    offer_damaged(v, &mut ring, image);
-    print(b"-- it is offered the whole file\n");
+    print(rt, b"-- the server starts, and is offered a damaged file\n");
+    offer_damaged(rt, v, &mut ring, image);
+    print(rt, b"-- it is offered the whole file\n");
     let o = image_load::load_journal(v, &mut ring, image, NEXT_ID);
     let w = o.volume;
     if w.state != 1 {
-        print(b"refused\n");
+        print(rt, b"refused\n");
         return;
     }
-    print_journal(w);
-    finish(w, &mut ring, start);
+    print_journal(rt, w);
+    finish(rt, w, &mut ring, start);
 }
 
 // Reads the file back, and starts the server with it.
-fn after(name: &[u8], start: u64) {
+fn after(rt: &(impl Files + Print + Eprint), name: &[u8], start: u64) {
     let mut image = [0u8; ROOM];
-    let n = fetch(name, &mut image);
+    let n = fetch(rt, name, &mut image);
     if n != 0 {
-        restart(&mut image[..n], start);
+        restart(rt, &mut image[..n], start);
     }
 }
 
-fn main() {
+fn main(rt: HostRuntime) {
     let mut name = *b"/tmp/restarted_server.XXXXXX";
-    if !take_name(&mut name) {
+    if !take_name(&rt, &mut name) {
         return;
     }
-    let at = before(&name);
+    let at = before(&rt, &name);
     if at != 0 {
-        after(&name, at);
+        after(&rt, &name, at);
     }
-    remove(&name);
+    remove(&rt, &name);
 }

@@ -9,7 +9,7 @@ ghost use Rattle.journal_post.specs.Posts.{after_post};
 ghost use Rattle.update_steps.specs.Update.{idle_volume, posting, reason_at, change_at, updated};
 ghost use Rattle.update_steps.specs.Service.{input_of, reply_from, read_to, reads_to};
 
-use case_rows::print;
+use case_rows::{print, print_number};
 use file_ids::id_of;
 use journal_post::Change;
 use status::{Answer, Status};
@@ -53,7 +53,7 @@ pub fn created(n: usize) -> Volume
 }
 
 // Posts a change and prints its Usn.
-fn post(v: Volume, ring: &mut [u8], file: u64, reason: u32, name: &[u8]) -> Volume
+fn post(rt: &impl Print, v: Volume, ring: &mut [u8], file: u64, reason: u32, name: &[u8]) -> Volume
     ensures { (record { volume = result; ring = ring.new }) ≡ after_post (record { volume = v; ring = ring.old }) (posting file reason name.now) }
 {
     let c = Change {
@@ -67,9 +67,9 @@ fn post(v: Volume, ring: &mut [u8], file: u64, reason: u32, name: &[u8]) -> Volu
     };
     let mut usn: u64 = 0;
     let o = journal_post::post(v, ring, c, name, &mut usn);
-    print(b"posted");
-    case_rows::print_number(usn);
-    print(b"\n");
+    print(rt, b"posted");
+    print_number(rt, usn);
+    print(rt, b"\n");
     o.volume
 }
 
@@ -86,25 +86,25 @@ fn reason(i: usize) -> u32
 }
 
 // Posts change i of an update.
-fn post_change(v: Volume, ring: &mut [u8], i: usize) -> Volume
+fn post_change(rt: &impl Print, v: Volume, ring: &mut [u8], i: usize) -> Volume
     ensures { (record { volume = result; ring = ring.new }) ≡ after_post (record { volume = v; ring = ring.old }) (change_at i) }
 {
     let file = i / 3;
     match file {
-        0 => post(v, ring, 41, reason(i), b"c\0o\0d\0e\0"),
-        1 => post(v, ring, 42, reason(i), b"t\0a\0b\0l\0e\0"),
-        _ => post(v, ring, 43, reason(i), b"l\0i\0m\0i\0t\0s\0"),
+        0 => post(rt, v, ring, 41, reason(i), b"c\0o\0d\0e\0"),
+        1 => post(rt, v, ring, 42, reason(i), b"t\0a\0b\0l\0e\0"),
+        _ => post(rt, v, ring, 43, reason(i), b"l\0i\0m\0i\0t\0s\0"),
     }
 }
 
 // Posts changes `from` to `to` of one update after the other.
-pub fn post_changes(v: Volume, ring: &mut [u8], from: usize, to: usize) -> Volume
+pub fn post_changes(rt: &impl Print, v: Volume, ring: &mut [u8], from: usize, to: usize) -> Volume
     ensures { (record { volume = result; ring = ring.new }) ≡ updated (record { volume = v; ring = ring.old }) from to }
 {
     let mut w = v;
     let mut i = from;
     while i < to {
-        w = post_change(w, ring, i % CHANGES);
+        w = post_change(rt, w, ring, i % CHANGES);
         i += 1;
     }
     w
@@ -141,7 +141,7 @@ pub fn read_from(
 
 // Reads once from `start` on with room for two records, prints the reply, and returns its position; a refusal is printed and
 // leaves the reader where it is.
-pub fn read_once(v: Volume, ring: &[u8], id: u64, start: u64) -> u64
+pub fn read_once(rt: &impl Print, v: Volume, ring: &[u8], id: u64, start: u64) -> u64
     ensures { result ≡ read_to v ring.now id start }
 {
     let mut output = [0u8; 160];
@@ -149,37 +149,37 @@ pub fn read_once(v: Volume, ring: &[u8], id: u64, start: u64) -> u64
     let count = answer.count;
     if count < 8 {
         let s = answer.status;
-        print_refusal(s);
+        print_refusal(rt, s);
         return start;
     }
     let mut text = [0u8; 400];
     let listed = usn_listing::list_reply(&mut text, &output[..count]);
     let n = listed.count;
-    print(&text[..n]);
+    print(rt, &text[..n]);
     le::get(&output, 0, 8)
 }
 
-fn print_refusal(s: Status) {
+fn print_refusal(rt: &impl Print, s: Status) {
     match s {
-        Status::JournalEntryDeleted => print(b"entries deleted\n"),
-        Status::InvalidParameter => print(b"invalid parameter\n"),
-        _ => print(b"refused\n"),
+        Status::JournalEntryDeleted => print(rt, b"entries deleted\n"),
+        Status::InvalidParameter => print(rt, b"invalid parameter\n"),
+        _ => print(rt, b"refused\n"),
     }
 }
 
 // Reads from `start` on up to the journal's end, to a read that does not move the reader, or sixteen times, and returns the last
 // position.
-pub fn read_on(v: Volume, ring: &[u8], id: u64, start: u64) -> u64
+pub fn read_on(rt: &impl Print, v: Volume, ring: &[u8], id: u64, start: u64) -> u64
     ensures { result ≡ reads_to 16 v ring.now id start }
 {
     let mut at = start;
     let mut i: usize = 0;
     while i < 16 {
         if at == v.last {
-            print(b"at the end\n");
+            print(rt, b"at the end\n");
             return at;
         }
-        let next = read_once(v, ring, id, at);
+        let next = read_once(rt, v, ring, id, at);
         if next == at {
             return at;
         }

@@ -5,9 +5,12 @@
 ghost use Rattle.std.specs.Prelude.{◌≤◌, length};
 ghost use Rattle.list_input.specs.Input.{Within};
 
-use libc::{STDERR_FILENO, STDOUT_FILENO};
 use list_input::Input;
+use program_io::{argument, argument_count, complain, fail};
 use status::{Answer, Status};
+use std::env::Env;
+use std::random::RandomSource;
+use std::rt::Files;
 
 // The longest image. A file is read into a byte more: one that fills that is longer, whatever follows.
 const LONGEST: usize = 65536 + 32;
@@ -17,74 +20,69 @@ const TEXT: usize = 128 + 2 * LONGEST;
 
 // ---- What it says.
 
-fn say(text: &[u8]) {
-    if !io::write_all(STDOUT_FILENO, text) {
-        os::fail(b"write");
+fn say(rt: &(impl Print + Eprint), text: &[u8]) {
+    if let Err(error) = rt.write_all(text) {
+        fail(rt, b"write", error);
     }
 }
 
 // Says how many bytes were read, and how many were written.
-fn say_moved(old: usize, new: usize) {
-    let said = io::write_all(STDOUT_FILENO, b"moved ")
-        && io::print_decimal(STDOUT_FILENO, old as u64)
-        && io::write_all(STDOUT_FILENO, b" bytes to ")
-        && io::print_decimal(STDOUT_FILENO, new as u64)
-        && io::write_all(STDOUT_FILENO, b"\n");
-    if !said {
-        os::fail(b"write");
+fn say_moved(rt: &(impl Print + Eprint), old: usize, new: usize) {
+    if let Err(error) = print!(rt; "moved {old} bytes to {new}\n") {
+        fail(rt, b"write", error);
     }
 }
 
 // Says that an image is not of the form that it is to be moved from.
-fn say_other(form: u32) {
+fn say_other(rt: &(impl Print + Eprint), form: u32) {
     if form == 1 {
-        say(b"not of form 1\n");
+        say(rt, b"not of form 1\n");
     } else {
-        say(b"not of form 2\n");
+        say(rt, b"not of form 2\n");
     }
 }
 
 // Says why an image is not moved.
-fn say_refusal(status: Status, from: u32) {
+fn say_refusal(rt: &(impl Print + Eprint), status: Status, from: u32) {
     match status {
-        Status::UnknownRevision => say_other(from),
-        Status::FileCorruptError => say(b"no image\n"),
-        Status::NotSupported => say(b"an id does not fit form 1\n"),
-        _ => say(b"refused\n"),
+        Status::UnknownRevision => say_other(rt, from),
+        Status::FileCorruptError => say(rt, b"no image\n"),
+        Status::NotSupported => say(rt, b"an id does not fit form 1\n"),
+        _ => say(rt, b"refused\n"),
     }
 }
 
-fn say_usage() {
-    io::write_all(STDERR_FILENO, b"usage: usnimage FILE [up NEW | down NEW]\n");
+fn say_usage(rt: &impl Eprint) {
+    complain(rt, "usage: usnimage FILE [up NEW | down NEW]\n");
 }
 
 // ---- The image.
 
 // Reads a file into `image`, and says so if it is longer than any image.
-fn fetch(name: &[u8], image: &mut [u8]) -> Input
+fn fetch(rt: &(impl Files + Print + Eprint), name: &[u8], image: &mut [u8]) -> Input
     ensures { Within (length image.old) result }
 {
-    let input = image_file::fetch(name, image);
+    let input = image_file::fetch(rt, name, image);
     let Input::Bytes(n) = input else {
         return input;
     };
     if LONGEST < n {
-        say(b"no image\n");
+        say(rt, b"no image\n");
         return Input::Failed;
     }
     input
 }
 
-fn list(name: &[u8]) {
+fn list(rt: &(impl Files + Print + Eprint), name: &[u8]) {
     let mut image = [0u8; LONGEST + 1];
-    let input = fetch(name, &mut image);
+    let input = fetch(rt, name, &mut image);
     let Input::Bytes(n) = input else {
         return;
     };
     let mut text = [0u8; TEXT];
     let answer = image_listing::list_image(&mut text, &image[..n]);
     let count = answer.count;
-    say(&text[..count]);
+    say(rt, &text[..count]);
 }
 
 // Moves an image from a form to the other one.
@@ -95,16 +93,26 @@ fn moved(image: &[u8], from: u32, output: &mut [u8]) -> Answer
 }
 
 // Stores what became of an image of so many bytes. If that fails, the file under this name stays as it was.
-fn keep(image: &[u8], name: &[u8], old: usize) {
-    if image_file::store(image, name) {
-        say_moved(old, image.len());
+fn keep(
+    rt: &(impl Files + RandomSource + Print + Eprint),
+    image: &[u8],
+    name: &[u8],
+    old: usize,
+) {
+    if image_file::store(rt, image, name) {
+        say_moved(rt, old, image.len());
     }
 }
 
 // Moves the image in the file `name` from a form to the other one, in the file `new`.
-fn move_file(name: &[u8], from: u32, new: &[u8]) {
+fn move_file(
+    rt: &(impl Files + RandomSource + Print + Eprint),
+    name: &[u8],
+    from: u32,
+    new: &[u8],
+) {
     let mut image = [0u8; LONGEST + 1];
-    let input = fetch(name, &mut image);
+    let input = fetch(rt, name, &mut image);
     let Input::Bytes(n) = input else {
         return;
     };
@@ -113,8 +121,8 @@ fn move_file(name: &[u8], from: u32, new: &[u8]) {
     let status = answer.status;
     let count = answer.count;
     match status {
-        Status::Success => keep(&output[..count], new, n),
-        _ => say_refusal(status, from),
+        Status::Success => keep(rt, &output[..count], new, n),
+        _ => say_refusal(rt, status, from),
     }
 }
 
@@ -146,45 +154,45 @@ fn form_from(word: &[u8]) -> u32 {
 }
 
 // The form that argument 2 moves an image from. A word that does not fit is read as an empty one.
-fn form_asked() -> u32 {
+fn form_asked(rt: &impl Env) -> u32 {
     let mut word = [0u8; 8];
-    let n = os::arg(2, &mut word);
+    let n = argument(rt, 2, &mut word);
     form_from(&word[..n])
 }
 
 // A name that is too long for any file is read as an empty one, which names none.
-fn list_asked() {
-    let mut name = io::buffer();
-    let n = os::arg(1, &mut name);
+fn list_asked(rt: &(impl Env + Files + Print + Eprint)) {
+    let mut name = [0u8; 4096];
+    let n = argument(rt, 1, &mut name);
     if n == 0 {
-        say_usage();
+        say_usage(rt);
         return;
     }
-    list(&name[..n]);
+    list(rt, &name[..n]);
 }
 
-fn move_asked() {
-    let form = form_asked();
+fn move_asked(rt: &(impl Env + Files + RandomSource + Print + Eprint)) {
+    let form = form_asked(rt);
     if form == 0 {
-        say_usage();
+        say_usage(rt);
         return;
     }
-    let mut name = io::buffer();
-    let n = os::arg(1, &mut name);
-    let mut new = io::buffer();
-    let m = os::arg(3, &mut new);
+    let mut name = [0u8; 4096];
+    let n = argument(rt, 1, &mut name);
+    let mut new = [0u8; 4096];
+    let m = argument(rt, 3, &mut new);
     if n == 0 || m == 0 {
-        say_usage();
+        say_usage(rt);
         return;
     }
-    move_file(&name[..n], form, &new[..m]);
+    move_file(rt, &name[..n], form, &new[..m]);
 }
 
-fn main() {
-    let count = os::arg_count();
+fn main(rt: HostRuntime) {
+    let count = argument_count(&rt);
     match count {
-        2 => list_asked(),
-        4 => move_asked(),
-        _ => say_usage(),
+        2 => list_asked(&rt),
+        4 => move_asked(&rt),
+        _ => say_usage(&rt),
     }
 }

@@ -1,6 +1,7 @@
 // Lists a journal reply from standard input.
 #![tactic(auto)]
 
-fn main() {
-    list_input::list(libc::STDIN_FILENO);
+fn main(rt: HostRuntime) {
+    let mut source = rt.reader();
+    list_input::list(&rt, &mut source);
 }

@@ -1,4 +1,4 @@
--- `list_read` meets its contract: what was read is the whole input, or both are too long.
+-- The listing of what was read of an input is that of the input: it was read whole, or both are too long.
 -- Assumes nothing.
 use mathlib.Core.Path.{◌≡◌, refl, sym, ap, ◌∙◌, subst}
 use mathlib.Core.Bool.{Bool, true, false}
@@ -15,8 +15,6 @@ use Rattle.status.specs.Reply.{give, Replied}
 use Rattle.usn_listing.specs.Listing.{listing, list_reply}
 use Rattle.usn_listing.proofs.Listing.{long-listing}
 use Rattle.list_input.specs.Input.{ReadInto}
-use Rattle.list_input.proofs.list_read.Statement.{statement}
-use Rattle.list_input.proofs.list_read.Tie as tie
 
 module _ (buf input : List ℕ) (n : ℕ) (k : 65536 < length buf) (e : ReadInto buf n input) where
   -- the listing of what was read is that of the input
@@ -30,21 +28,8 @@ module _ (buf input : List ℕ) (n : ℕ) (k : 65536 < length buf) (e : ReadInto
           sym (long-listing (take n buf) (omega (arith, m, k))) ∙ long-listing input (omega (arith, l, k))
       by false t = ap listing (e ∙ take_all (length buf) input (omega (arith, leb-false (length buf) (length input) t)))
 
-  input-listed : (o new : List ℕ) (r : Answer) → n ≤ length buf → 64 + 2 * length buf ≤ length o → Replied (list_reply (take n buf) (length o)) r o new
+  pub input-listed : (o new : List ℕ) (r : Answer) → n ≤ length buf → 64 + 2 * length buf ≤ length o → Replied (list_reply (take n buf) (length o)) r o new
       → Replied (give Success (listing input)) r o new
   input-listed o new r h room p =
       let w : 64 + 2 * length (take n buf) ≤ length o = omega (arith, length-take-le n buf h, h, room) in
       subst (λ (t : List ℕ). Replied (give Success t) r o new) same-listing (rw (le-leb _ _ w) at p)
-
-slice-aggregate-list-reply : tie.Need-slice-aggregate-list-reply
-slice-aggregate-list-reply c = let s = c.before.before.before.before in sym (length-take-le _ _ s.requires.0)
-
-returns : tie.Need-returns
-returns c =
-    let r = c.before.before in
-    let s = r.before.before.before.before.before in
-    let a = s.args in
-    λ input e. input-listed a.buf.now input a.n s.requires.1 e a.text.now r.list-reply.new.0 r.list-reply.result s.requires.0 s.requires.2 r.list-reply.ensures
-
-pub list-read-spec : {M : Type 1} → statement M
-list-read-spec = tie.close (tie.spec slice-aggregate-list-reply (λ c κs. omega arith) (λ c. omega arith) returns)
