@@ -2,7 +2,7 @@
  * The C interface of the library: a volume's change journal and seven controls on it and on its files. docs/USING.md says how a
  * server works with it.
  *
- * Build the library with `rt staticlib lanhduxe` and link target/staticlib/liblanhduxe.a (x86-64 Linux). It calls no function but
+ * Build the library with `rt lib` in crates/lanhduxe and link its out/liblanhduxe.a (x86-64 Linux). It calls no function but
  * memcpy and memset, allocates nothing and keeps nothing between calls.
  *
  * Memory. Every buffer is lent for the time of one call, as a pointer and a length; with a length of 0 the pointer may be NULL. The

@@ -1,5 +1,5 @@
 //! Links the static library `liblanhduxe.a`. Its folder is `LANHDUXE_LIB_DIR`, or
-//! `../target/staticlib` beside this package when the variable is not set.
+//! `../crates/lanhduxe/out` beside this package when the variable is not set.
 
 use std::env;
 use std::path::{Path, PathBuf};
@@ -10,7 +10,7 @@ fn main() {
     let manifest = env::var_os("CARGO_MANIFEST_DIR").expect("cargo sets CARGO_MANIFEST_DIR");
     let folder = match env::var_os("LANHDUXE_LIB_DIR") {
         Some(folder) => Path::new(&manifest).join(folder),
-        None => PathBuf::from(manifest).join("../target/staticlib"),
+        None => PathBuf::from(manifest).join("../crates/lanhduxe/out"),
     };
     let archive = folder.join("liblanhduxe.a");
     println!("cargo:rerun-if-changed={}", archive.display());

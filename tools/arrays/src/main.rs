@@ -34,7 +34,7 @@ fn main() -> ExitCode {
 
 fn check(crates: &Path) -> Result<(), String> {
     let sources = sources(crates).map_err(|fault| format!("{}: {fault}", crates.display()))?;
-    let program = Program::read(&sources)?;
+    let program = Program::read(&sources, &READS)?;
     let reached = Reached::from(&program, &READS)?;
     list(&reached);
     match &above(&reached)[..] {

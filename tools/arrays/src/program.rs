@@ -60,6 +60,8 @@ pub struct Program {
     uses: BTreeMap<String, Tokens>,
     /// The paths that stand for more than one item, module or `use`.
     twice: BTreeSet<String>,
+    /// The crates that are named and may not be read yet.
+    waiting: BTreeSet<String>,
 }
 
 impl Item {
@@ -119,15 +121,19 @@ impl Module<'_> {
 }
 
 impl Program {
-    /// Reads every library, from its lib.rt on. No other crate names what is in a program.
-    pub fn read(sources: &Sources) -> Result<Program, String> {
+    /// Reads the libraries of these functions, and every library that one of those names, each from its lib.rt on. What they do not name,
+    /// they cannot reach.
+    pub fn read(sources: &Sources, functions: &[&str]) -> Result<Program, String> {
         let mut program = Program::default();
-        for file in sources.keys() {
-            let Some((name, "src/lib.rt")) = file.split_once('/') else {
+        let crates = functions.iter().filter_map(|path| path.split("::").next());
+        program.waiting.extend(crates.map(str::to_string));
+        while let Some(name) = program.waiting.pop_first() {
+            let file = library(&name);
+            if program.modules.contains(&name) || !sources.contains_key(&file) {
                 continue;
-            };
+            }
             let scope = Scope {
-                module: name.to_string(),
+                module: name.clone(),
                 owner: None,
             };
             program.read_file(
@@ -136,7 +142,7 @@ impl Program {
                     scope,
                     folder: format!("{name}/src"),
                 },
-                file,
+                &file,
             )?;
         }
         // a method is looked up at its type, so this must be the type's own path
@@ -159,8 +165,12 @@ impl Program {
             .ok_or(format!("there is no {file}"))?;
         self.declare(&module.scope.module)?;
         self.modules.insert(module.scope.module.clone());
-        split(source)
-            .and_then(|tokens| self.read_items(module, &tokens))
+        let tokens = split(source).map_err(|fault| format!("{file}: {fault}"))?;
+        let crates = tokens
+            .iter()
+            .filter(|token| module.sources.contains_key(&library(token)));
+        self.waiting.extend(crates.cloned());
+        self.read_items(module, &tokens)
             .map_err(|fault| format!("{file}: {fault}"))
     }
 
@@ -295,6 +305,11 @@ impl Program {
     fn has(&self, path: &str) -> bool {
         self.items.contains_key(path) || self.modules.contains(path) || self.uses.contains_key(path)
     }
+}
+
+/// The file from which a library is read.
+fn library(name: &str) -> String {
+    format!("{name}/src/lib.rt")
 }
 
 /// The word that says what an item is.

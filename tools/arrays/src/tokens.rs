@@ -42,7 +42,7 @@ pub fn split(source: &str) -> Result<Vec<String>, String> {
             rest = &rest[ghost_text(rest)?..];
             continue;
         }
-        // the language has a string only in `extern "C"`; this is one, or a part of a raw byte string
+        // no text that is followed has a string but in `extern "C"`; this is one, or a part of a raw byte string
         if first == '"' && tokens.last().is_none_or(|before| before != "extern") {
             return Err(format!("not understood: {token}"));
         }

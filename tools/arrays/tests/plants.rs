@@ -63,8 +63,9 @@ impl Planted {
 
     fn search(&self) -> Answer {
         static COUNT: AtomicUsize = AtomicUsize::new(0);
-        let count = COUNT.fetch_add(1, Ordering::Relaxed).to_string();
-        let folder = Path::new(env!("CARGO_TARGET_TMPDIR")).join(count);
+        let count = COUNT.fetch_add(1, Ordering::Relaxed);
+        // (rt wants no source in the repository outside of a crate)
+        let folder = std::env::temp_dir().join(format!("arrays-{}-{count}", std::process::id()));
         for (path, source) in &self.0 {
             let path = folder.join(path);
             fs::create_dir_all(path.parent().unwrap()).unwrap();
@@ -371,6 +372,25 @@ fn in_another_crate() {
         .finds(&[("le::first", 17)]);
 }
 
+#[test]
+fn in_a_crate_that_is_named() {
+    let not_understood = "static SPARE: u8 = 0;";
+    Planted::nothing()
+        .module("spare/src/lib.rt", not_understood)
+        .finds(&[]);
+    planted("fn planted(n: usize) -> u8 { spare::first(n) }")
+        .module("spare/src/lib.rt", "mod inner; pub use inner::first;")
+        .module(
+            "spare/src/inner.rt",
+            "use other::OTHER; pub fn first(n: usize) -> u8 { OTHER[n] }",
+        )
+        .module("other/src/lib.rt", "pub const OTHER: [u8; 17] = [0; 17];")
+        .finds(&[("other::OTHER", 17)]);
+    planted("use spare::first; fn planted(n: usize) -> u8 { 0 }")
+        .module("spare/src/lib.rt", not_understood)
+        .fails("not understood: static SPARE : u8 = 0");
+}
+
 // ---- How large an array is.
 
 #[test]
@@ -473,6 +493,7 @@ fn not_of_slices_indices_comments_and_contracts() {
         "
         /* [u8; 17] /* // */ [u8; 17] */ // [u8; 17]
         #[spare([u8; 17])]
+        #[tactic(auto, using(le.table), unfolding(first))]
         fn planted<'a>(s: &'a mut [u8], versions: &[Version], key: Key) -> &'a [u8]
             ghost { [u8; 17] }
             requires { [u8; 17] }
@@ -481,6 +502,7 @@ fn not_of_slices_indices_comments_and_contracts() {
             let first = s[key.0[1]] + key.0[first(1)];
             &s[1..s.len()]
         }
+        #[derive(Clone, Copy)]
         struct Key(pub [u8; 2]);
         fn first(n: usize) -> usize { n }
         ",
@@ -650,9 +672,9 @@ fn what_cannot_be_sized() {
 #[test]
 fn what_a_contract_may_hide() {
     for clause in [
-        "λ b'. ⌜ b' ≡ b' ⌝",
-        "⌜ length (now s) < 2 ^ 63 ⌝",
-        "λ r. ⌜ r ≡ record { at = 1 } ⌝",
+        "IfOk result (λ b'. b'.now ≡ b'.now)",
+        "length s.now < 2 ^ 63",
+        "result ≡ record { at = 1 }",
     ] {
         planted(&format!(
             "
@@ -660,7 +682,9 @@ fn what_a_contract_may_hide() {
                 ensures {{ {clause} }}
             {{ let spare = [0u8; 17]; spare[n] }}
             fn other(n: usize) -> u8
-                ensures named {{ {clause} }}
+                requires named {{ {clause} }}
+                ensures first {{ {clause} }}
+                ensures second {{ {clause} }}
             {{ 0 }}
             "
         ))
@@ -669,7 +693,7 @@ fn what_a_contract_may_hide() {
     planted(
         "
         ghost use
-        lib.ListN;
+        Rattle.std.specs.Prelude.{◌≡◌, ◌∷◌, []};
         fn planted(n: usize) -> u8 { let spare = [0u8; 17]; spare[n] }
         ",
     )
