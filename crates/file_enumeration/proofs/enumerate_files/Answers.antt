@@ -6,14 +6,8 @@ use lib.ListN.{length}
 use Rattle.file_table.specs.Table.{rows, right_table, rising}
 use Rattle.file_table.proofs.Rising.{false-true}
 use Rattle.file_table.proofs.Judging.{told-bad, told-rising, told-mixed}
-use Rattle.file_enumeration.proofs.Replying.{without-support, bad-table, good-reply}
+use Rattle.file_enumeration.proofs.Replying.{bad-table, good-reply}
 use Rattle.file_enumeration.proofs.enumerate_files.Goals as goal
-
-pub returns-then-v-eq0 : goal.returns-then-v-eq0
-returns-then-v-eq0 c =
-    let a = c.args in
-    rw (without-support a.v a.table.now a.pool.now a.input.now (length a.output.now) (omega (arith, c.if-v-eq0.true)))
-    (record { answered = c.refused.ensures; output = refl })
 
 pub enumerate_judged-requires : goal.enumerate_judged-requires
 enumerate_judged-requires c =
@@ -30,7 +24,7 @@ enumerate_judged-requires-in-Mixed c =
 pub returns-in-Bad : goal.returns-in-Bad
 returns-in-Bad c =
     let a = c.args in
-    rw (bad-table a.v a.table.now a.pool.now a.input.now (length a.output.now) c.if-v-eq0.false (told-bad a.pool.now a.table.now (sym c.in-Bad.is ∙ c.judge_table-order.ensures)))
+    rw (bad-table a.v a.table.now a.pool.now a.input.now (length a.output.now) (λ e. omega (arith, e)) (told-bad a.pool.now a.table.now (sym c.in-Bad.is ∙ c.judge_table-order.ensures)))
     (record { answered = c.refused-in-Bad.ensures; output = refl })
 
 pub returns-in-Rising : goal.returns-in-Rising
@@ -38,11 +32,11 @@ returns-in-Rising c =
     let rises : let a = c.args in (right_table a.pool.now a.table.now ≡ true) × (rising (rows a.table.now) ≡ true) =
     let a = c.args in told-rising a.pool.now a.table.now (sym c.in-Rising.is ∙ c.judge_table-order.ensures) in
     let a = c.args in
-    rw (good-reply a.v a.table.now a.pool.now a.input.now (length a.output.now) c.if-v-eq0.false rises.0) c.enumerate_judged.ensures
+    rw (good-reply a.v a.table.now a.pool.now a.input.now (length a.output.now) (λ e. omega (arith, e)) rises.0) c.enumerate_judged.ensures
 
 pub returns-in-Mixed : goal.returns-in-Mixed
 returns-in-Mixed c =
     let mixes : let a = c.args in right_table a.pool.now a.table.now ≡ true =
     let a = c.args in told-mixed a.pool.now a.table.now (sym c.in-Mixed.is ∙ c.judge_table-order.ensures) in
     let a = c.args in
-    rw (good-reply a.v a.table.now a.pool.now a.input.now (length a.output.now) c.if-v-eq0.false mixes) c.enumerate_judged-in-Mixed.ensures
+    rw (good-reply a.v a.table.now a.pool.now a.input.now (length a.output.now) (λ e. omega (arith, e)) mixes) c.enumerate_judged-in-Mixed.ensures
