@@ -265,6 +265,7 @@ fn enumerate_judged(
 }
 
 // Enumerates the files of a table by rising id. Their names stand in the pool.
+#[tactic(auto, unfolding(crate::specs::Enumerate::enum_reply, crate::specs::Enumerate::enum_check))]
 pub fn enumerate_files(
     v: Volume,
     table: &[u8],

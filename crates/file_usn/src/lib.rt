@@ -16,6 +16,7 @@ use usn_record::{Choice, Fields, Version, input_version, name_offset, shows_ids}
 use volume::Volume;
 
 // The version to reply in, or the first check that refuses the call. `table` says whether the table of links is right.
+#[tactic(auto, unfolding(crate::specs::FileUsn::file_check))]
 fn judge_file(
     v: Volume,
     f: FileRecord,
