@@ -198,8 +198,21 @@ fn parts(list: &str) -> impl Iterator<Item = &str> {
 
 /// The fields of a struct of Rust or Rattle that is shared with C.
 fn fields(code: &str, name: &str) -> Vec<Named> {
-    let body = between(code, &format!("#[repr(C)]\npub struct {name} {{"), "}");
-    parts(body).flat_map(named).collect()
+    let head = format!("pub struct {name} {{");
+    let is_shared = |at: usize| {
+        let mut attributes = code[..at]
+            .lines()
+            .rev()
+            .take_while(|line| line.starts_with("#["));
+        attributes.any(|line| line == "#[repr(C)]")
+    };
+    let mut found = code.match_indices(&head).map(|(at, _)| at);
+    let start = found
+        .find(|at| is_shared(*at))
+        .unwrap_or_else(|| panic!("no `{head}` under #[repr(C)]"));
+    parts(between(&code[start..], &head, "}"))
+        .flat_map(named)
+        .collect()
 }
 
 /// The fields of a struct of C.

@@ -538,6 +538,27 @@ fn what_cannot_be_followed() {
             "no source has SPARE",
         ),
         ("fn planted(n: spare) -> u8 { 0 }", "no source has spare"),
+        (
+            "fn planted(first: fn(u8) -> u8) -> u8 { first(1) }",
+            "no source has first",
+        ),
+        (
+            "fn planted(n: u8) -> u8 { let first = |x: u8| x; first(n) }",
+            "no source has first",
+        ),
+        (
+            "fn planted(first: impl Fn(u8) -> u8) -> u8 { 0 }",
+            "no source has Fn",
+        ),
+        ("fn planted<T>(n: T) -> u8 { 0 }", "no source has T"),
+        (
+            "trait First { fn first(self) -> u8; } fn planted(n: usize) -> u8 { 0 }",
+            "not understood: trait First { fn first ( self ) -> u8; }",
+        ),
+        (
+            "struct Held(u8); impl First for Held { fn first(self) -> u8 { 0 } } fn planted(n: usize) -> u8 { 0 }",
+            "an impl of kept_writer::First, which is no type of that module",
+        ),
         ("fn planted(n: usize) -> u8 { let x: spare = 0; 0 }", "no source has spare"),
         (
             "struct R<'a> { s: &'a [u8] } impl<'a> R<'a> { fn first(n: usize) -> u8 { 0 } } fn planted(n: usize) -> u8 { R::<'_>::first(n) }",
