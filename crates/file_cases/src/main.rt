@@ -114,7 +114,15 @@ fn usn(rt: &impl Print, row: &[u8], table: &[u8], pool: &[u8], output: &mut [u8]
     column(table, 2, &mut shorts);
     let count = table.len() / ROW;
     let n = if count < 16 { count } else { 16 };
-    usn_of(rt, row, pool, &places[..n], &lengths[..n], &shorts[..n], output);
+    usn_of(
+        rt,
+        row,
+        pool,
+        &places[..n],
+        &lengths[..n],
+        &shorts[..n],
+        output,
+    );
 }
 
 fn usn_of(

@@ -153,7 +153,12 @@ fn offer_damaged(rt: &impl Print, v: Volume, ring: &mut [u8], image: &mut [u8])
 {
     let n = image.len();
     print_offers(rt, b"cut at each byte:", n, refused_parts(v, ring, image));
-    print_offers(rt, b"one bit changed:", 8 * n, refused_changes(v, ring, image));
+    print_offers(
+        rt,
+        b"one bit changed:",
+        8 * n,
+        refused_changes(v, ring, image),
+    );
 }
 
 // Prints where a journal begins and ends.
@@ -203,7 +208,10 @@ fn before(rt: &(impl Files + RandomSource + Print + Eprint), name: &[u8]) -> u64
     let v = post_changes(rt, created(CAPACITY), &mut ring, 0, BEFORE);
     print(rt, b"-- the service reads, and is cut off\n");
     let at = read_once(rt, v, &ring, ID, START);
-    print(rt, b"-- the server saves the journal, and loses its power\n");
+    print(
+        rt,
+        b"-- the server saves the journal, and loses its power\n",
+    );
     if !save(rt, v, &ring, name) {
         return 0;
     }
@@ -214,7 +222,10 @@ fn before(rt: &(impl Files + RandomSource + Print + Eprint), name: &[u8]) -> u64
 fn finish(rt: &impl Print, v: Volume, ring: &mut [u8], start: u64) {
     print(rt, b"-- the service returns with the old id\n");
     read_once(rt, v, ring, ID, start);
-    print(rt, b"-- it asks for the new id, and goes on from its last position\n");
+    print(
+        rt,
+        b"-- it asks for the new id, and goes on from its last position\n",
+    );
     let at = read_on(rt, v, ring, v.id, start);
     print_done(rt, v, ring);
     print(rt, b"-- the server finishes the update\n");

@@ -93,12 +93,7 @@ fn moved(image: &[u8], from: u32, output: &mut [u8]) -> Answer
 }
 
 // Stores what became of an image of so many bytes. If that fails, the file under this name stays as it was.
-fn keep(
-    rt: &(impl Files + RandomSource + Print + Eprint),
-    image: &[u8],
-    name: &[u8],
-    old: usize,
-) {
+fn keep(rt: &(impl Files + RandomSource + Print + Eprint), image: &[u8], name: &[u8], old: usize) {
     if image_file::store(rt, image, name) {
         say_moved(rt, old, image.len());
     }
