@@ -1,4 +1,4 @@
-// File ids as sixteen bytes by value, the lowest first. In contracts an id is the list of its bytes; `idNumber` and `idBytes` go between
+// File ids as sixteen bytes by value, the lowest first. In contracts an id is the list of its bytes; `id_number` and `id_bytes` go between
 // that and the one number that a record's layout has for it.
 #![tactic(auto)]
 
