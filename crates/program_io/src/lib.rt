@@ -2,7 +2,7 @@
 // gives or takes.
 #![tactic(auto)]
 
-ghost use Rattle.std.specs.Prelude.{◌≡◌, ◌≤◌, length, IfOk};
+ghost use Rattle.std.specs.Prelude.{◌≡◌, ◌≤◌, length, IfOk, IfErr, IsUtf8};
 
 use std::env::{Env, FillError};
 use std::fmt::{Display, Formatter, Write};
@@ -45,7 +45,8 @@ const NO_TEXT: i32 = 84;
 
 // The name of a file as std takes it: as text in UTF-8. The only error is that it is none.
 pub fn path(name: &[u8]) -> io::Result<&str>
-    ensures { IfOk result (λ s. s.now ≡ name.now) }
+    ensures ok { IfOk result (λ s. s.now ≡ name.now) }
+    ensures err { IfErr result (λ e. ¬ (IsUtf8 name.now)) }
 {
     match str::from_utf8(name) {
         Ok(text) => Ok(text),
