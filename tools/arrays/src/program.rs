@@ -10,10 +10,14 @@ pub type Sources = BTreeMap<String, String>;
 
 pub type Tokens = Vec<String>;
 
-/// Reads every source below a folder of crates.
+/// Reads every source below the src/ of a folder's crates. (What a check leaves in out/ has copies of older ones.)
 pub fn sources(crates: &Path) -> std::io::Result<Sources> {
     let mut sources = Sources::new();
-    let mut folders = vec![crates.to_path_buf()];
+    let mut folders = Vec::new();
+    for entry in std::fs::read_dir(crates)? {
+        folders.push(entry?.path().join("src"));
+    }
+    folders.retain(|folder| folder.is_dir());
     while let Some(folder) = folders.pop() {
         for entry in std::fs::read_dir(folder)? {
             let path = entry?.path();
