@@ -3,7 +3,7 @@
 
 usage: tools/respell.py [--list] [FOLDER]
 
-Run once, at the top, right behind /opt/rattle/port/port.py. A name turns where a text of specs/ or proofs/ declares it with a small first
+Run once, at the top, right behind the kit's port.py. A name turns where a text of specs/ or proofs/ declares it with a small first
 letter and a capital behind it: in those texts, in clauses and 'ghost use' lines of src/, in the wrong versions' texts of either, and in
 what docs/ and README.md cite in backquotes. Types and modules keep their capitals, a dash goes on joining two names, and functions of src/,
 exported names, strings, inputs and outputs stay. Two lemmas that would get their function's name end in _lem.
