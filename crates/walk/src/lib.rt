@@ -1,3 +1,3 @@
-// What proofs by hand shared: walks of functions that an older check did not make by itself, as of those that update a record where it
-// stands. Today's check makes each of these walks, so nothing is left to share. There is no code here.
+// Proofs of functions that the borrow checker does not cover, as far as they are the same for any function: what several crates'
+// proofs by hand share. There is no code here.
 #![tactic(auto)]
