@@ -14,7 +14,9 @@ use std::{fmt, io, str};
 // ---- The arguments.
 
 // How many arguments the program was started with, its own name among them.
-pub fn argument_count(rt: &impl Env) -> usize {
+pub fn argument_count(rt: &impl Env) -> usize
+    ensures { Unit {0} }
+{
     for i in 0..usize::MAX {
         if !has_argument(rt, i) {
             return i;
@@ -54,8 +56,10 @@ pub fn path(name: &[u8]) -> io::Result<&str>
     }
 }
 
-// Opens the file of that name for reading.
-pub fn open<R: Files>(rt: &R, name: &[u8]) -> io::Result<R::File> {
+// Opens the file of that name for reading. A name that is no text is refused.
+pub fn open<R: Files>(rt: &R, name: &[u8]) -> io::Result<R::File>
+    ensures { IfOk result (λ f. IsUtf8 name.now) }
+{
     File::open(rt, path(name)?)
 }
 
@@ -78,7 +82,9 @@ impl Display for Words<'_> {
 }
 
 // Says something on standard error. Where that fails there is nowhere left to say so.
-pub fn complain(rt: &impl Eprint, text: impl Display + Drop) {
+pub fn complain(rt: &impl Eprint, text: impl Display + Drop)
+    ensures { Unit {0} }
+{
     let _ = rt.eprint(text);
 }
 
@@ -136,6 +142,8 @@ impl Display for Cause {
 }
 
 // Says what failed, and how, on a line of its own.
-pub fn fail(rt: &impl Eprint, what: &[u8], error: Error) {
+pub fn fail(rt: &impl Eprint, what: &[u8], error: Error)
+    ensures { Unit {0} }
+{
     complain(rt, format_args!("{}: {}\n", Words(what), Cause(error)));
 }
