@@ -10,11 +10,11 @@ use Rattle.case_rows.specs.Rows.{digest_from}
 
 module _ (s : List ℕ) (whole d i : ℕ) (inv : digest_from d (drop i s) ≡ whole) where
   -- a turn of the loop
-  pub digest-again : i < length s → digest_from (d % 4294967291 * 31 + get_or s i 0) (drop (i + 1) s) ≡ whole
+  pub digest_again : i < length s → digest_from (d % 4294967291 * 31 + get_or s i 0) (drop (i + 1) s) ≡ whole
   unfolding digest_from
-  digest-again h = rw add-one (rw (drop-cons s i 0 h) at inv)
+  digest_again h = rw add-one (rw (drop-cons s i 0 h) at inv)
 
   -- the end of the loop
-  pub digest-end : length s ≤ i → d % 4294967291 ≡ whole
+  pub digest_end : length s ≤ i → d % 4294967291 ≡ whole
   unfolding digest_from
-  digest-end h = rw (drop_of_length-le s h) at inv
+  digest_end h = rw (drop_of_length-le s h) at inv

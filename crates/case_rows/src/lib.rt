@@ -5,14 +5,14 @@ ghost use Rattle.std.specs.Prelude.{◌≡◌, ◌%◌, ◌≤◌, ◌^◌, min,
 ghost use Rattle.case_rows.specs.Rows.{number_in, digest_from};
 
 use program_io::{argument, fail};
-use status::{Status, status_number};
+use status::Status;
 use std::env::Env;
 use std::rt::Files;
 
 // The bytes of a row.
 pub const ROW: usize = 72;
 
-// Number i of a row; 0 where there is none.
+// Number i of a row; 0 where there is none: a row's numbers are 0 where nothing is said, so none and 0 mean the same.
 pub fn number(row: &[u8], i: usize) -> u64
     requires { i ≤ 8 }
     ensures { result ≡ number_in row.now i }
@@ -45,14 +45,13 @@ pub fn size(row: &[u8], i: usize, n: usize) -> usize
 }
 
 // A number that tells one run of bytes from another.
+#[tactic(auto, using(crate::proofs::Digests::digest_again, crate::proofs::Digests::digest_end))]
 pub fn digest(s: &[u8]) -> u64
     ensures { result ≡ digest_from 1 s.now }
 {
     let mut d: u64 = 1;
-    let mut i = 0;
-    while i < s.len() {
-        d = d % 4294967291 * 31 + s[i] as u64;
-        i += 1;
+    for byte in s {
+        d = d % 4294967291 * 31 + *byte as u64;
     }
     d % 4294967291
 }
@@ -76,7 +75,7 @@ pub fn print_number(rt: &impl Print, value: u64)
 pub fn print_status(rt: &impl Print, s: Status)
     ensures { Unit {0} }
 {
-    let number = status_number(s);
+    let number = u32::from(s);
     let _ = print!(rt; " {number:08x}");
 }
 

@@ -14,12 +14,10 @@ use std::rt::Files;
 use volume::Volume;
 
 // Prints status, count and a digest of the whole output.
-fn told(rt: &impl Print, label: &[u8], answer: Answer, output: &[u8]) {
-    let s = answer.status;
-    let count = answer.count;
+fn tell(rt: &impl Print, label: &[u8], answer: Answer, output: &[u8]) {
     print(rt, label);
-    print_status(rt, s);
-    print_number(rt, count as u64);
+    print_status(rt, answer.status);
+    print_number(rt, answer.count as u64);
     print_number(rt, digest(output));
     print(rt, b"\n");
 }
@@ -28,10 +26,8 @@ fn told(rt: &impl Print, label: &[u8], answer: Answer, output: &[u8]) {
 fn pattern(s: &mut [u8], step: usize)
     requires { step ≤ 250 }
 {
-    let mut i = 0;
-    while i < s.len() {
-        s[i] = (i % 251 * step % 251) as u8;
-        i += 1;
+    for (i, byte) in s.iter_mut().enumerate() {
+        *byte = (i % 251 * step % 251) as u8;
     }
 }
 
@@ -75,7 +71,7 @@ fn regions(rt: &impl Print, row: &[u8], output: &mut [u8]) {
     let v = volume(0, word(row, 1), 0, 0);
     let f = file(0, 0, number(row, 2), number(row, 3), 0, 0);
     let answer = file_regions::query_file_regions(v, f, &input[..wide], &mut output[..room]);
-    told(rt, b"regions", answer, output);
+    tell(rt, b"regions", answer, output);
 }
 
 // Reparse point: both support flags, tag, the data's length, room.
@@ -84,22 +80,15 @@ fn reparse(rt: &impl Print, row: &[u8], store: &[u8], output: &mut [u8]) {
     let v = volume(0, 0, word(row, 1), word(row, 2));
     let f = file(0, 0, 0, 0, word(row, 3), number(row, 4));
     let answer = reparse_point::get_reparse_point(v, f, store, &mut output[..room]);
-    told(rt, b"reparse", answer, output);
+    tell(rt, b"reparse", answer, output);
 }
 
 // Takes number i of each row of a table.
 fn column(table: &[u8], i: usize, out: &mut [u32])
     requires { i ≤ 8 }
 {
-    let mut n = 0;
-    let mut at = 0;
-    while n < out.len() {
-        if table.len() - at < ROW {
-            return;
-        }
-        out[n] = word(&table[at..], i);
-        n += 1;
-        at += ROW;
+    for (x, row) in out.iter_mut().zip(table.chunks_exact(ROW)) {
+        *x = word(row, i);
     }
 }
 
@@ -153,28 +142,39 @@ fn usn_of(
         &input[..wide],
         &mut output[..room],
     );
-    told(rt, b"usn", answer, output);
+    tell(rt, b"usn", answer, output);
+}
+
+// What a row calls for.
+#[derive(Clone, Copy, Debug, PartialEq, Eq)]
+enum Kind {
+    Regions,
+    Reparse,
+    Usn,
+}
+
+impl From<u64> for Kind {
+    fn from(n: u64) -> Kind {
+        match n {
+            0 => Kind::Regions,
+            1 => Kind::Reparse,
+            _ => Kind::Usn,
+        }
+    }
 }
 
 fn call(rt: &impl Print, row: &[u8], table: &[u8], pool: &[u8], output: &mut [u8]) {
     pattern(output, 7);
-    let kind = number(row, 0);
-    match kind {
-        0 => regions(rt, row, output),
-        1 => reparse(rt, row, pool, output),
-        _ => usn(rt, row, table, pool, output),
+    match Kind::from(number(row, 0)) {
+        Kind::Regions => regions(rt, row, output),
+        Kind::Reparse => reparse(rt, row, pool, output),
+        Kind::Usn => usn(rt, row, table, pool, output),
     }
 }
 
 fn run(rt: &impl Print, rows: &[u8], table: &[u8], pool: &[u8], output: &mut [u8]) {
-    let mut at = 0;
-    while at < rows.len() {
-        if rows.len() - at < ROW {
-            return;
-        }
-        let end = at + ROW;
-        call(rt, &rows[at..end], table, pool, output);
-        at = end;
+    for row in rows.chunks_exact(ROW) {
+        call(rt, row, table, pool, output);
     }
 }
 

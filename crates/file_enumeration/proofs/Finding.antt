@@ -5,11 +5,12 @@ use mathlib.Core.Logic.{◌⊎◌, inl, inr}
 use mathlib.Core.Bool.{Bool, true, false, cond}
 use mathlib.Core.List.Memᴰ
 use mathlib.Core.List.{List, [], ◌∷◌, ◌++◌, Memᴰ}
+use Rattle.std.specs.Prelude.{Option, None, Some, IfSome}
 use Prim.Native.Nat.{ℕ, suc, ◌+◌, ◌%◌, ◌≤◌, ◌<◌}
 use native.Mathlib.Omega.{arith}
 use lib.Dec.{ltb}
 use lib.ListN.{length, drop}
-use borrow.Author.Tests.{lt-ltb, le-ltb, ltb-true, ltb-false}
+use borrow.Author.Tests.{ltb-true, ltb-false}
 use Rattle.file_ids.specs.Ids.{id_number}
 use Rattle.file_table.specs.Table.{Row, rows, distinct, rising}
 use Rattle.file_table.specs.Steps.{row_at, id_at}
@@ -17,7 +18,7 @@ use Rattle.file_table.proofs.Rows.{rows_end, rows_next}
 use Rattle.file_table.proofs.Rising.{false-true, rising-rest, rising-below, rising-distinct}
 use Rattle.file_table.proofs.Places.{row-split, row-member}
 use Rattle.file_enumeration.specs.declared.Query.{Query}
-use Rattle.file_enumeration.specs.Enumerate.{selects, files_of, starting_at}
+use Rattle.file_enumeration.specs.Enumerate.{selects, starting_at}
 use Rattle.file_enumeration.specs.Steps.{Leads, Ahead, lower_of}
 use Rattle.file_enumeration.proofs.Ordering.{selects-start, least_first, none_first}
 
@@ -25,22 +26,13 @@ use Rattle.file_enumeration.proofs.Ordering.{selects-start, least_first, none_fi
 
 module _ (q : Query) (table : List ℕ) where
   -- nothing is selected
-  pub leads-none : length table % 56 ≡ 0 → ((r : Row) → Memᴰ r (rows table) → selects q r ≡ true → ⊥) → Leads q table (length table)
-  leads-none w n = (
-    none_first q (rows table) n ∙ sym (ap (λ (b : Bool). cond b (row_at table (length table) ∷ files_of (starting_at q (suc (id_at table (length table)))) table) []) (le-ltb (length table) (length table) (omega arith))),
-    omega arith,
-    w,
-  )
+  pub leads-none : ((r : Row) → Memᴰ r (rows table) → selects q r ≡ true → ⊥) → Leads q table None
+  leads-none n = none_first q (rows table) n
 
   -- the row at a place is selected, and no selected row is below it
   pub leads-at : (at : ℕ) → distinct (rows table) ≡ true → at + 56 ≤ length table → at % 56 ≡ 0 → selects q (row_at table at) ≡ true
-      → ((r : Row) → Memᴰ r (rows table) → selects q r ≡ true → id_at table at ≤ id_number r.id) → Leads q table at
-  leads-at at d h m s l = (
-    least_first q (rows table) (row_at table at) d (row-member table at m h) s l
-        ∙ sym (ap (λ (b : Bool). cond b (row_at table at ∷ files_of (starting_at q (suc (id_at table at))) table) []) (lt-ltb at (length table) (omega arith))),
-    omega arith,
-    m,
-  )
+      → ((r : Row) → Memᴰ r (rows table) → selects q r ≡ true → id_at table at ≤ id_number r.id) → Leads q table (Some at)
+  leads-at at d h m s l = (least_first q (rows table) (row_at table at) d (row-member table at m h) s l, h, m)
 
 -- ---- a table in rising order
 
@@ -69,10 +61,8 @@ higher-behind (z ∷ before) y rs x e m h = go (Memᴰ.cases_cons m) (higher-beh
 
 module _ (q : Query) (table : List ℕ) (w : length table % 56 ≡ 0) (o : rising (rows table) ≡ true) (at : ℕ) (m : at % 56 ≡ 0) where
   -- past the last row
-  pub next-none : at ≤ length table → length table ≤ at → Ahead q table at → Leads q table at
-  next-none h k n =
-      let e : at ≡ length table = omega arith in
-      subst (Leads q table) (sym e) (leads-none q table w (λ r i s. Memᴰ.not-nil (subst (λ (l : List Row). Memᴰ r l) (rows_end table at (omega arith)) (n r i s))))
+  pub next-none : length table ≤ at → Ahead q table at → Leads q table None
+  next-none h n = leads-none q table (λ r i s. Memᴰ.not-nil (subst (λ (l : List Row). Memᴰ r l) (rows_end table at (omega arith)) (n r i s)))
 
   module _ (h : at < length table) where
     inside : at + 56 ≤ length table
@@ -88,7 +78,7 @@ module _ (q : Query) (table : List ℕ) (w : length table % 56 ≡ 0) (o : risin
     rise = sym (ap rising parts.1) ∙ o
 
     -- the first that is selected
-    pub next-at : selects q (row_at table at) ≡ true → Ahead q table at → Leads q table at
+    pub next-at : selects q (row_at table at) ≡ true → Ahead q table at → Leads q table (Some at)
     next-at s n =
         leads-at q table at (rising-distinct (rows table) o) inside m s
         (λ r i k. least r (Memᴰ.cases_cons (subst (λ (l : List Row). Memᴰ r l) from-here (n r i k))))
@@ -116,86 +106,76 @@ module _ (q : Query) (table : List ℕ) (w : length table % 56 ≡ 0) (o : risin
 -- ---- a table in any order
 
 module _ (q : Query) (table : List ℕ) where
-  -- of the rows before `at`: `best` is where the selected one with the lowest id stands, or there is none, and it is the table's end
-  pub record Best (best at : ℕ) : Type 0 where
-    pub inside : best ≤ length table
-    pub even : best % 56 ≡ 0
+  -- a selected row stands at a place, if it is one
+  abbrev Chosen : Option ℕ → Type 0
+  Chosen (Some best) = (best + 56 ≤ length table) × (best % 56 ≡ 0) × (selects q (row_at table best) ≡ true)
+  Chosen None = Unit {0}
+
+  -- and no row that has a lower id than it
+  abbrev Under : Option ℕ → Row → Type 0
+  Under (Some best) r = id_at table best ≤ id_number r.id
+  Under None r = ⊥
+
+  -- of the rows before `at`: `best` is where the selected one with the lowest id stands, if there is one
+  pub record Best (best : Option ℕ) (at : ℕ) : Type 0 where
     pub reached : at ≤ length table
     pub aligned : at % 56 ≡ 0
-    pub chosen : best < length table → selects q (row_at table best) ≡ true
-    pub lowest : (r : Row) → Memᴰ r (rows table) → selects q r ≡ true → Memᴰ r (rows (drop at table)) ⊎ ((best < length table) × (id_at table best ≤ id_number r.id))
+    pub chosen : Chosen best
+    pub lowest : (r : Row) → Memᴰ r (rows table) → selects q r ≡ true → Memᴰ r (rows (drop at table)) ⊎ Under best r
 
-  module _ (w : length table % 56 ≡ 0) where
-    pub best-start : Best (length table) 0
-    best-start =
-        record { inside = omega arith; even = w; reached = omega arith; aligned = refl; chosen = λ h. absurd (omega arith); lowest = λ r i k. inl i }
+  pub best-start : Best None 0
+  best-start = record { reached = omega arith; aligned = refl; chosen = tt; lowest = λ r i k. inl i }
 
-    module _ (best at : ℕ) (b : Best best at) where
-      pub best-end : distinct (rows table) ≡ true → length table ≤ at → Leads q table best
-      best-end d h = by (ltb best (length table)) refl
-        where
-          ended : {A : Type 0} (r : Row) → Memᴰ r (rows (drop at table)) → A
-          ended r m = absurd (Memᴰ.not-nil (subst (λ (l : List Row). Memᴰ r l) (rows_end table at (omega arith)) m))
+  pub best-inside : (best : Option ℕ) (at : ℕ) → Best best at → IfSome best (λ b. b + 56 ≤ length table)
+  best-inside (Some best) at b = b.chosen.0
+  best-inside None at b = tt
 
-          none : best ≡ length table → (r : Row) → Memᴰ r (rows (drop at table)) ⊎ ((best < length table) × (id_at table best ≤ id_number r.id)) → ⊥
-          none e r (inl m) = ended r m
-          none e r (inr k) = absurd (omega (arith, k.0, e))
+  pub best-end : (best : Option ℕ) (at : ℕ) → Best best at → distinct (rows table) ≡ true → length table ≤ at → Leads q table best
+  best-end best at b d h = by best b
+    where
+      last : {A : Type 0} (r : Row) → Memᴰ r (rows (drop at table)) ⊎ A → A
+      last r (inl m) = absurd (Memᴰ.not-nil (subst (λ (l : List Row). Memᴰ r l) (rows_end table at (omega arith)) m))
+      last r (inr k) = k
 
-          low : (r : Row) → Memᴰ r (rows (drop at table)) ⊎ ((best < length table) × (id_at table best ≤ id_number r.id)) → id_at table best ≤ id_number r.id
-          low r (inl m) = ended r m
-          low r (inr k) = k.1
+      by : (c : Option ℕ) → Best c at → Leads q table c
+      by (Some c) x = leads-at q table c d x.chosen.0 x.chosen.1 x.chosen.2 (λ r i s. last r (x.lowest r i s))
+      by None x = leads-none q table (λ r i s. last r (x.lowest r i s))
 
-          by : (t : Bool) → ltb best (length table) ≡ t → Leads q table best
-          by true t =
-              let k : best < length table = ltb-true best (length table) t in
-              leads-at q table best d (omega (arith, b.even, w, k)) b.even (b.chosen k) (λ r i s. low r (b.lowest r i s))
-          by false t =
-              let e : best ≡ length table = omega (arith, ltb-false best (length table) t, b.inside) in
-              subst (Leads q table) (sym e) (leads-none q table w (λ r i s. none e r (b.lowest r i s)))
+  module _ (w : length table % 56 ≡ 0) (at : ℕ) (h : at < length table) where
+    pub best-here : (best : Option ℕ) → Best best at → at + 56 ≤ length table
+    best-here best b = let e = b.aligned in omega (arith, e)
 
-      module _ (h : at < length table) where
-        in_table : at + 56 ≤ length table
-        in_table = let e = b.aligned in omega (arith, e)
-
-        pub best-inside : best < length table → best + 56 ≤ length table
-        best-inside k = let e = b.even in omega (arith, e)
-
+    -- the row at `at` instead, or not
+    kept : (best c : Option ℕ) → Best best at → Chosen c → (selects q (row_at table at) ≡ true → Under c (row_at table at))
+        → ((r : Row) → Under best r → Under c r)
+        → Best c (at + 56)
+    kept best c b s n o =
+        record { reached = best-here best b; aligned = omega (arith, b.aligned); chosen = s; lowest = λ r m k. go r k (b.lowest r m k) }
+      where
         here : rows (drop at table) ≡ row_at table at ∷ rows (drop (at + 56) table)
-        here = rows_next table at in_table
+        here = rows_next table at (best-here best b)
 
-        -- the row at `at` instead, or not
-        kept : (c : ℕ) → c ≤ length table → c % 56 ≡ 0 → (c < length table → selects q (row_at table c) ≡ true)
-            → (selects q (row_at table at) ≡ true → (c < length table) × (id_at table c ≤ id_at table at))
-            → (best < length table → (c < length table) × (id_at table c ≤ id_at table best))
-            → Best c (at + 56)
-        kept c i e s n o =
-            record { inside = i; even = e; reached = in_table; aligned = omega (arith, b.aligned); chosen = s; lowest = λ r m k. go r k (b.lowest r m k) }
-          where
-            at_here : (r : Row) → selects q r ≡ true → (r ≡ row_at table at) ⊎ Memᴰ r (rows (drop (at + 56) table))
-                → Memᴰ r (rows (drop (at + 56) table)) ⊎ ((c < length table) × (id_at table c ≤ id_number r.id))
-            at_here r k (inl p) =
-                let t = n (ap (selects q) (sym p) ∙ k) in
-                let u : id_number r.id ≡ id_at table at = ap (λ (x : Row). id_number x.id) p in
-                inr (t.0, omega (arith, t.1, u))
-            at_here r k (inr p) = inl p
+        at_here : (r : Row) → selects q r ≡ true → (r ≡ row_at table at) ⊎ Memᴰ r (rows (drop (at + 56) table))
+            → Memᴰ r (rows (drop (at + 56) table)) ⊎ Under c r
+        at_here r k (inl p) = inr (subst (Under c) (sym p) (n (ap (selects q) (sym p) ∙ k)))
+        at_here r k (inr p) = inl p
 
-            go : (r : Row) → selects q r ≡ true → Memᴰ r (rows (drop at table)) ⊎ ((best < length table) × (id_at table best ≤ id_number r.id))
-                → Memᴰ r (rows (drop (at + 56) table)) ⊎ ((c < length table) × (id_at table c ≤ id_number r.id))
-            go r k (inl m) = at_here r k (Memᴰ.cases_cons (subst (λ (l : List Row). Memᴰ r l) here m))
-            go r k (inr t) = let v = o t.0 in inr (v.0, omega (arith, v.1, t.1))
+        go : (r : Row) → selects q r ≡ true → Memᴰ r (rows (drop at table)) ⊎ Under best r → Memᴰ r (rows (drop (at + 56) table)) ⊎ Under c r
+        go r k (inl m) = at_here r k (Memᴰ.cases_cons (subst (λ (l : List Row). Memᴰ r l) here m))
+        go r k (inr t) = inr (o r t)
 
-        pub best-next : Best (lower_of q table best at) (at + 56)
-        best-next = by (selects q (row_at table at)) refl
-          where
-            taken : selects q (row_at table at) ≡ true → (u : Bool) → ltb best (length table) ≡ u → (v : Bool) → ltb (id_at table at) (id_at table best) ≡ v
-                → Best (cond u (cond v at best) at) (at + 56)
-            taken s true t true z =
-                kept at (omega arith) b.aligned (λ k. s) (λ k. (h, omega arith)) (λ k. (h, omega (arith, ltb-true (id_at table at) (id_at table best) z)))
-            taken s true t false z =
-                kept best b.inside b.even b.chosen (λ k. (ltb-true best (length table) t, ltb-false (id_at table at) (id_at table best) z)) (λ k. (k, omega arith))
-            taken s false t v z =
-                kept at (omega arith) b.aligned (λ k. s) (λ k. (h, omega arith)) (λ k. absurd (omega (arith, ltb-false best (length table) t, k)))
-
-            by : (x : Bool) → selects q (row_at table at) ≡ x → Best (cond x (cond (ltb best (length table)) (cond (ltb (id_at table at) (id_at table best)) at best) at) best) (at + 56)
-            by true s = taken s (ltb best (length table)) refl (ltb (id_at table at) (id_at table best)) refl
-            by false s = kept best b.inside b.even b.chosen (λ k. false-true (sym s ∙ k)) (λ k. (k, omega arith))
+    pub best-next : (best : Option ℕ) → Best best at → Best (lower_of q table best at) (at + 56)
+    best-next None b = by (selects q (row_at table at)) refl
+      where
+        by : (x : Bool) → selects q (row_at table at) ≡ x → Best (cond x (Some at) None) (at + 56)
+        by true s = kept None (Some at) b (best-here None b, b.aligned, s) (λ k. omega arith) (λ r t. absurd t)
+        by false s = kept None None b tt (λ k. false-true (sym s ∙ k)) (λ r t. t)
+    best-next (Some best) b = by (selects q (row_at table at)) refl (ltb (id_at table at) (id_at table best)) refl
+      where
+        by : (x : Bool) → selects q (row_at table at) ≡ x → (v : Bool) → ltb (id_at table at) (id_at table best) ≡ v
+            → Best (cond x (cond v (Some at) (Some best)) (Some best)) (at + 56)
+        by true s true z =
+            kept (Some best) (Some at) b (best-here (Some best) b, b.aligned, s) (λ k. omega arith)
+            (λ r t. omega (arith, ltb-true (id_at table at) (id_at table best) z, t))
+        by true s false z = kept (Some best) (Some best) b b.chosen (λ k. ltb-false (id_at table at) (id_at table best) z) (λ r t. t)
+        by false s v z = kept (Some best) (Some best) b b.chosen (λ k. false-true (sym s ∙ k)) (λ r t. t)

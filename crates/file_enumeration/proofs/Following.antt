@@ -3,7 +3,7 @@
 use mathlib.Core.Path.{◌≡◌, refl, sym, ap, ◌∙◌, subst}
 use mathlib.Core.Logic.{◌⊎◌, inl, inr}
 use mathlib.Core.Bool.{Bool, true, false, not, cond}
-use mathlib.Core.Option.{Option, none, some}
+use Rattle.std.specs.Prelude.{Option, None, Some}
 use mathlib.Core.List.Memᴰ
 use mathlib.Core.List.{List, [], ◌∷◌, ◌++◌, map, map-append, Memᴰ, tail-eq_of_cons-eq}
 use Prim.Native.Nat.{ℕ, zero, suc, ◌+◌, ◌-◌, ◌^◌, ◌≤◌, ◌<◌}
@@ -101,12 +101,12 @@ module _ (q : Query) (t : Turn) where
 
   versions-back : versions_in 32 24 (input_of q t) ≡ versions_in 8 0 t.versions
   versions-back =
-      ap (λ (b : Bool). cond b (version_check (number_at (input_of q t) 24 2) (number_at (input_of q t) 26 2)) none) (ap (leb 32) length-input ∙ long-enough (length t.versions))
-      ∙ ap (λ (n : ℕ). cond (leb 8 (length t.versions)) (version_check n (number_at (input_of q t) 26 2)) none) (behind 0 2)
-      ∙ ap (λ (n : ℕ). cond (leb 8 (length t.versions)) (version_check (number_at t.versions 0 2) n) none) (behind 2 2)
+      ap (λ (b : Bool). cond b (version_check (number_at (input_of q t) 24 2) (number_at (input_of q t) 26 2)) None) (ap (leb 32) length-input ∙ long-enough (length t.versions))
+      ∙ ap (λ (n : ℕ). cond (leb 8 (length t.versions)) (version_check n (number_at (input_of q t) 26 2)) None) (behind 0 2)
+      ∙ ap (λ (n : ℕ). cond (leb 8 (length t.versions)) (version_check (number_at t.versions 0 2) n) None) (behind 2 2)
 
   -- it is not refused
-  input-passes : versions_in 8 0 t.versions ≡ none → 600 ≤ t.room → input_check (input_of q t) t.room ≡ none
+  input-passes : versions_in 8 0 t.versions ≡ None → 600 ≤ t.room → input_check (input_of q t) t.room ≡ None
   unfolding input_check
   input-passes e h =
       ap (λ (b : Bool). else (unless b InvalidParameter) (else (versions_in 32 24 (input_of q t)) (unless (leb 8 t.room) BufferTooSmall)))
@@ -114,8 +114,8 @@ module _ (q : Query) (t : Turn) where
       ∙ ap (λ (k : Option Status). else k (unless (leb 8 t.room) BufferTooSmall)) (versions-back ∙ e)
       ∙ ap (λ (b : Bool). unless b BufferTooSmall) (le-leb 8 t.room (omega (arith, h)))
 
-  module _ (v : Volume) (table pool : List ℕ) (s : supported v.journal ≡ true) (g : right_table pool table ≡ true) (z : Sized q) (e : versions_in 8 0 t.versions ≡ none) (h : 600 ≤ t.room) where
-    turn-passes : enum_check v table pool (input_of q t) t.room ≡ none
+  module _ (v : Volume) (table pool : List ℕ) (s : supported v.journal ≡ true) (g : right_table pool table ≡ true) (z : Sized q) (e : versions_in 8 0 t.versions ≡ None) (h : 600 ≤ t.room) where
+    turn-passes : enum_check v table pool (input_of q t) t.room ≡ None
     unfolding enum_check
     turn-passes =
         ap (λ (b : Bool). else (unless b InvalidDeviceRequest) (else (unless (right_table pool table) FileCorruptError) (input_check (input_of q t) t.room))) s
@@ -255,7 +255,7 @@ rows-shown w pool (r ∷ rs) = ap (λ (l : List Record). record_of pool r ∷ l)
 module _ (v : Volume) (table pool : List ℕ) where
   -- a refusal is the last
   follow-end : (q : Query) (t : Turn) (ts : List Turn) (x : Status) → enum_reply v table pool (input_of q t) t.room ≡ refuse x
-      → follow v table pool q (t ∷ ts) ≡ record { replies = []; refusal = some x }
+      → follow v table pool q (t ∷ ts) ≡ record { replies = []; refusal = Some x }
   unfolding follow
   follow-end q t ts x e = ap (λ (r : Reply). goes_on r (λ (bytes : List ℕ). follow v table pool (starting_at q (position_of bytes)) ts)) e
 
@@ -269,7 +269,7 @@ module _ (v : Volume) (table pool : List ℕ) where
       ∙ ap (λ (m : ℕ). record { replies = s ∷ (follow v table pool (starting_at q m) ts).replies; refusal = (follow v table pool (starting_at q m) ts).refusal }) p
 
   -- what the replies and the refusal tell
-  made : (q : Query) (ts : List Turn) (g : Given) → follow v table pool q ts ≡ g → g.refusal ≡ some EndOfFile → length g.replies ≤ length (files_of q table)
+  made : (q : Query) (ts : List Turn) (g : Given) → follow v table pool q ts ≡ g → g.refusal ≡ Some EndOfFile → length g.replies ≤ length (files_of q table)
       → map (in_version V3) (all_records g.replies) ≡ map (record_of pool) (files_of q table)
       → Followed v table pool q ts
   made q ts g e a b c =
@@ -284,7 +284,7 @@ module _ (v : Volume) (table pool : List ℕ) where
     right-file q r m = let k = files-out q (rows table) r m in (right-row pool table g b r k.0, k.1)
 
     -- one turn with files left
-    module _ (q : Query) (t : Turn) (z : Sized q) (e : versions_in 8 0 t.versions ≡ none) (h : 600 ≤ t.room) (r : Row) (files : List Row) (l : files_of q table ≡ r ∷ files) where
+    module _ (q : Query) (t : Turn) (z : Sized q) (e : versions_in 8 0 t.versions ≡ None) (h : 600 ≤ t.room) (r : Row) (files : List Row) (l : files_of q table ≡ r ∷ files) where
       abbrev w : Version
       w = enum_version (input_of q t)
 
@@ -345,10 +345,10 @@ module _ (v : Volume) (table pool : List ℕ) where
           ∙ ap (map (record_of pool)) (sym (l ∙ cut.parts)))
 
     -- a turn with none left
-    none_left : (q : Query) (t : Turn) (ts : List Turn) → Sized q → versions_in 8 0 t.versions ≡ none → 600 ≤ t.room → files_of q table ≡ [] → Followed v table pool q (t ∷ ts)
+    none_left : (q : Query) (t : Turn) (ts : List Turn) → Sized q → versions_in 8 0 t.versions ≡ None → 600 ≤ t.room → files_of q table ≡ [] → Followed v table pool q (t ∷ ts)
     none_left q t ts z e h l =
         let w = enum_version (input_of q t) in
-        made q (t ∷ ts) (record { replies = []; refusal = some EndOfFile })
+        made q (t ∷ ts) (record { replies = []; refusal = Some EndOfFile })
         (follow-end q t ts EndOfFile
         (turn-reply q t v table pool s g z e h
         ∙ ap (λ (fs : List Row). page_reply w pool fs (page_of w pool (t.room - 8) q.start fs)) l

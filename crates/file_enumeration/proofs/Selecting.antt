@@ -2,20 +2,21 @@
 -- Assumes nothing.
 use mathlib.Core.Path.{◌≡◌, refl, sym, ap, ◌∙◌}
 use mathlib.Core.Bool.{Bool, true, false, not, ◌&&◌}
-use mathlib.Core.List.{List}
+use mathlib.Core.List.{List, [], ◌∷◌}
 use Prim.Native.Nat.{ℕ, suc, ◌+◌, ◌^◌, ◌≤◌, ◌<◌}
 use native.Mathlib.Omega.{arith}
 use lib.Dec.{leb, eqb}
-use lib.ListN.{length}
+use lib.ListN.{length, take, drop, length-drop}
+use lib.Seq.{take-add, drop-drop, drop_at, length-take-le}
 use borrow.Author.Tests.{not-true, not-false, le-leb, lt-leb, eq-eqb, ne_eqb, eqb-true}
-use Rattle.le.specs.Numbers.{number_at}
-use Rattle.le.specs.Bytes.{Bytes}
-use Rattle.le.proofs.Runs.{and_left}
+use Rattle.le.specs.Numbers.{unle, number_at}
+use Rattle.le.specs.Bytes.{Bytes, all_zero}
+use Rattle.le.proofs.Runs.{and_left, and_right}
 use Rattle.file_ids.specs.Ids.{wide, id_number}
 use Rattle.file_ids.proofs.Ids.{narrow-lt}
 use Rattle.file_table.specs.Table.{Row}
 use Rattle.file_table.specs.Steps.{row_at, id_at}
-use Rattle.file_table.proofs.Rows.{number-drop, id-wide, parent-wide, id-low}
+use Rattle.file_table.proofs.Rows.{number-drop, halves, id-wide, parent-wide, id-low}
 use Rattle.file_table.proofs.Places.{Right}
 use Rattle.file_enumeration.specs.declared.Query.{Query}
 use Rattle.file_enumeration.specs.Enumerate.{from_low, to_high, selects}
@@ -95,9 +96,27 @@ next_fits pool q r k e =
     let o = k.other in
     omega (arith, l, o)
 
+-- a run of zeroes is the number 0
+zero-number : (l : List ℕ) → all_zero l ≡ true → unle l ≡ 0
+unfolding all_zero unle
+zero-number [] e = refl
+zero-number (b ∷ l) e =
+    let z : b ≡ 0 = eqb-true b 0 (and_left (eqb b 0) (all_zero l) e) in
+    let r : unle l ≡ 0 = zero-number l (and_right (eqb b 0) (all_zero l) e) in
+    omega (arith, z, r)
+
+-- the upper half of an id that is not wide
+upper-zero : (s : List ℕ) (at : ℕ) → at + 56 ≤ length s → wide (row_at s at).id ≡ false → number_at s (at + 8) 8 ≡ 0
+unfolding number_at
+upper-zero s at h e =
+    let x : List ℕ = drop at s in
+    let n : length (take 8 x) ≡ 8 = length-take-le 8 x (omega (arith, length-drop at s)) in
+    let u : drop 8 (take 16 x) ≡ take 8 (drop 8 x) = ap (drop 8) (take-add 8 8 x) ∙ drop_at (take 8 x) (take 8 (drop 8 x)) 8 n in
+    ap (λ (l : List ℕ). unle (take 8 l)) (sym (drop-drop 8 at s)) ∙ ap unle (sym u)
+    ∙ zero-number (drop 8 (take 16 x)) (not-false (all_zero (drop 8 (take 16 x))) e)
+
 -- its id is the lower half
-pub selected-low : (s : List ℕ) → Bytes s → (at : ℕ) → at + 56 ≤ length s → (q : Query) → selects q (row_at s at) ≡ true → id_at s at ≡ number_at s at 8
-selected-low s b at h q e =
-    let x : ℕ = number_at s (at + 8) 8 in
+pub selected-low : (s : List ℕ) (at : ℕ) → at + 56 ≤ length s → (q : Query) → selects q (row_at s at) ≡ true → id_at s at ≡ number_at s at 8
+selected-low s at h q e =
     let n = and_left (not (wide (row_at s at).id)) (not (wide (row_at s at).parent)) (selects-narrow q (row_at s at) e) in
-    id-low s b at h x refl (eqb-true x 0 (not-false (eqb x 0) (sym (id-wide s b at h x refl) ∙ not-true (wide (row_at s at).id) n)))
+    omega (arith, halves s at h, upper-zero s at h (not-true (wide (row_at s at).id) n))

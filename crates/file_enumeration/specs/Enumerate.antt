@@ -1,6 +1,5 @@
 -- FSCTL_ENUM_USN_DATA: records of the files of a table as they are now, by rising id.
-use Rattle.std.specs.Prelude.{Bool, true, false, not, cond, ◌&&◌, ◌||◌, List, [], ◌∷◌, ◌++◌, ℕ, suc, ◌-◌, ◌^◌, leb, ltb, length}
-use Rattle.std.proofs.Math.Option.{Option}
+use Rattle.std.specs.Prelude.{Bool, true, false, not, cond, ◌&&◌, ◌||◌, List, [], ◌∷◌, ◌++◌, ℕ, suc, ◌-◌, ◌^◌, leb, ltb, length, Option}
 use Rattle.le.specs.Numbers.{le, number_at}
 use Rattle.status.specs.declared.Status.{Status}
 use Rattle.status.specs.declared.Status.TheVariants.{Success, InvalidParameter, InvalidDeviceRequest, EndOfFile, BufferTooSmall, FileCorruptError}

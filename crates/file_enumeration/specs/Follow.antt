@@ -1,7 +1,6 @@
 -- Which files an enumeration comes to, and that it comes to an end.
-use Rattle.std.specs.Prelude.{◌≡◌, ◌↔◌, true, ℕ, ◌≤◌, ◌<◌, ◌^◌, length}
+use Rattle.std.specs.Prelude.{◌≡◌, ◌↔◌, true, ℕ, ◌≤◌, ◌<◌, ◌^◌, length, Option, None, Some}
 use mathlib.Core.List.{List, [], ◌∷◌, ◌++◌, map, Memᴰ}
-use Rattle.std.proofs.Math.Option.{Option, none, some}
 use Rattle.le.specs.Numbers.{le}
 use Rattle.le.specs.Bytes.{Bytes}
 use Rattle.status.specs.declared.Status.{Status}
@@ -36,7 +35,7 @@ pub record Turn : Type 0 where
 -- versions that are not refused, or none, and 600 bytes of output or more
 abbrev pub Ample : List Turn → Type 0
 Ample [] = Unit {0}
-Ample (t ∷ ts) = (versions_in 8 0 t.versions ≡ none) × (600 ≤ t.room) × Ample ts
+Ample (t ∷ ts) = (versions_in 8 0 t.versions ≡ None) × (600 ≤ t.room) × Ample ts
 
 -- its input
 abbrev pub input_of : Query → Turn → List ℕ
@@ -49,12 +48,12 @@ pub record Given : Type 0 where
 
 -- a refusal ends it; behind a reply it goes on
 abbrev pub goes_on : Reply → (List ℕ → Given) → Given
-goes_on (refuse x) more = record { replies = []; refusal = some x }
+goes_on (refuse x) more = record { replies = []; refusal = Some x }
 goes_on (give x bytes) more = record { replies = bytes ∷ (more bytes).replies; refusal = (more bytes).refusal }
 
 -- each call starts at the u64 of the reply before
 unfoldable pub follow : Volume → List ℕ → List ℕ → Query → List Turn → Given
-follow v table pool q [] = record { replies = []; refusal = none }
+follow v table pool q [] = record { replies = []; refusal = None }
 follow v table pool q (t ∷ ts) =
     goes_on (enum_reply v table pool (input_of q t) t.room) (λ (bytes : List ℕ). follow v table pool (starting_at q (position_of bytes)) ts)
 
@@ -71,7 +70,7 @@ record_of pool r = record { version = V3; fields = current_fields r.id r.parent 
 
 pub record Followed (v : Volume) (table pool : List ℕ) (q : Query) (ts : List Turn) : Type 0 where
   -- it ends with END_OF_FILE
-  pub ended : (follow v table pool q ts).refusal ≡ some EndOfFile
+  pub ended : (follow v table pool q ts).refusal ≡ Some EndOfFile
   -- after at most as many replies as there are files, so by one call more at the most
   pub calls : length (follow v table pool q ts).replies ≤ length (files_of q table)
   -- each selected file was given once, in order

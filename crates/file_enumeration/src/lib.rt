@@ -1,24 +1,25 @@
 // FSCTL_ENUM_USN_DATA: USN records of a volume's files as they are now, by rising id, from a lent table of them.
 #![tactic(auto)]
 
-ghost use Rattle.std.specs.Prelude.{◌≡◌, true, ◌+◌, ◌-◌, ◌%◌, ◌≤◌, ◌<◌, length};
-ghost use Rattle.status.specs.Reply.{Replied, guard};
+ghost use Rattle.std.specs.Prelude.{◌≡◌, true, ◌+◌, ◌-◌, ◌%◌, ◌≤◌, ◌<◌, length, IfSome, Some};
+ghost use Rattle.status.specs.Reply.{Replied, guard, told};
 ghost use Rattle.usn_record.specs.Version.{chosen};
-ghost use Rattle.file_table.specs.Table.{rows, good_row, distinct, right_table, rising};
+ghost use Rattle.file_table.specs.declared.Order.TheVariants.{Rising};
+ghost use Rattle.file_table.specs.Table.{rows, good_row, distinct, rising};
 ghost use Rattle.file_table.specs.Steps.{row_at};
 ghost use Rattle.file_enumeration.specs.Enumerate.{query_in, enum_version, from_low, to_high, selects, files_of, page_of, input_check, files_reply, enum_reply};
 ghost use Rattle.file_enumeration.specs.Steps.{Leads, Ahead, lower_of, Gives, Sends};
 
 use file_ids::id_from;
-use file_table::{ATTRIBUTES, LENGTH, Order, PARENT, PLACE, ROW, USN, is_below, judge_table};
+use file_table::{ATTRIBUTES, LENGTH, Order, PARENT, PLACE, ROW, Table, USN, is_below};
 use file_usn::fields_of;
 use record_writer::put_split;
 use status::{Answer, Status};
-use usn_record::{Choice, NEGATIVE, Version, input_version};
+use usn_record::{NEGATIVE, Version, input_version};
 use volume::Volume;
 
 // What a call asks for: files from an id on, with a Usn from Low to High, which are bit patterns of signed numbers.
-#[derive(Clone, Copy)]
+#[derive(Clone, Copy, Debug, PartialEq, Eq)]
 pub struct Query {
     pub start: u64,
     pub low: u64,
@@ -26,7 +27,7 @@ pub struct Query {
 }
 
 // What a reply holds: the id to go on from, and the bytes of its records.
-#[derive(Clone, Copy)]
+#[derive(Clone, Copy, Debug, PartialEq, Eq)]
 pub struct Sent {
     pub next: u64,
     pub count: usize,
@@ -79,45 +80,43 @@ fn is_selected(table: &[u8], at: usize, q: Query) -> bool
 // ---- Which of them is the first.
 
 // The first file in a table in rising order, from the row at `from` on. No file stands before that.
-fn next_file(table: &[u8], from: usize, q: Query) -> usize
+fn next_file(table: &[u8], from: usize, q: Query) -> Option<usize>
     requires { (length table.now % 56 ≡ 0) × (from ≤ length table.now) × (from % 56 ≡ 0) × (rising (rows table.now) ≡ true) × (Ahead q table.now from) }
     ensures { Leads q table.now result }
 {
     let mut at = from;
-    loop {
-        if table.len() <= at {
-            break at;
-        }
+    while at < table.len() {
         if is_selected(table, at, q) {
-            break at;
+            return Some(at);
         }
         at += ROW;
     }
+    None
 }
 
 // Of the file at `best`, if one is there, and the row at `at`: the file with the lower id.
-fn lower_file(table: &[u8], best: usize, at: usize, q: Query) -> usize
-    requires { (at + 56 ≤ length table.now) × (best < length table.now → best + 56 ≤ length table.now) }
+fn lower_file(table: &[u8], best: Option<usize>, at: usize, q: Query) -> Option<usize>
+    requires { (at + 56 ≤ length table.now) × (IfSome best (λ b. b + 56 ≤ length table.now)) }
     ensures { result ≡ lower_of q table.now best at }
 {
     if !is_selected(table, at, q) {
         return best;
     }
-    if table.len() <= best {
-        return at;
-    }
-    if is_below(table, at, best) {
-        return at;
+    let Some(other) = best else {
+        return Some(at);
+    };
+    if is_below(table, at, other) {
+        return Some(at);
     }
     best
 }
 
 // The first file in a table in any order.
-fn lowest_file(table: &[u8], q: Query) -> usize
+fn lowest_file(table: &[u8], q: Query) -> Option<usize>
     requires { (length table.now % 56 ≡ 0) × (distinct (rows table.now) ≡ true) }
     ensures { Leads q table.now result }
 {
-    let mut best = table.len();
+    let mut best = None;
     let mut at = 0;
     while at < table.len() {
         best = lower_file(table, best, at, q);
@@ -126,21 +125,21 @@ fn lowest_file(table: &[u8], q: Query) -> usize
     best
 }
 
-// The first file of a table that is right: in rising order no file stands before the row at `from`.
-fn first_file(table: &[u8], ordered: bool, from: usize, q: Query) -> usize
-    requires { (length table.now % 56 ≡ 0) × (distinct (rows table.now) ≡ true) × (ordered ≡ true → (from ≤ length table.now) × (from % 56 ≡ 0) × (rising (rows table.now) ≡ true) × (Ahead q table.now from)) }
-    ensures { Leads q table.now result }
+// The first file of a table: in rising order no file stands before the row at `from`.
+fn first_file(table: &Table, from: usize, q: Query) -> Option<usize>
+    requires { table.now.order ≡ Rising → (from ≤ length table.now.bytes.now) × (from % 56 ≡ 0) × (Ahead q table.now.bytes.now from) }
+    ensures { Leads q table.now.bytes.now result }
 {
-    if ordered {
-        return next_file(table, from, q);
+    match table.order {
+        Order::Rising => next_file(table.bytes, from, q),
+        Order::Mixed => lowest_file(table.bytes, q),
     }
-    lowest_file(table, q)
 }
 
 // ---- The reply.
 
-// Writes the record of the file at `at` in version v at the start of `out`, if it fits, and returns its length, else 0.
-fn give(out: &mut [u8], pool: &[u8], table: &[u8], at: usize, v: Version) -> usize
+// Writes the record of the file at `at` in version v at the start of `out`, if it fits, and returns its length.
+fn give(out: &mut [u8], pool: &[u8], table: &[u8], at: usize, v: Version) -> Result<usize, Status>
     requires { (at + 56 ≤ length table.now) × (good_row pool.now (row_at table.now at) ≡ true) }
     ensures { Gives v pool.now (row_at table.now at) out.old result out.new }
 {
@@ -153,37 +152,27 @@ fn give(out: &mut [u8], pool: &[u8], table: &[u8], at: usize, v: Version) -> usi
     let fields = fields_of(file, parent, usn, attributes as u32);
     let from = le::get(table, at + PLACE, 8) as usize;
     let to = from + le::get(table, at + LENGTH, 4) as usize;
-    let answer = put_split(out, v, fields, &pool[from..to], &pool[to..to]);
-    answer.count
+    put_split(out, v, fields, &pool[from..to], &pool[to..to])
 }
 
 // Writes the records of the files from the first one, which stands at `first`, on, up to the first that does not fit.
-fn fill(
-    out: &mut [u8],
-    pool: &[u8],
-    table: &[u8],
-    ordered: bool,
-    first: usize,
-    q: Query,
-    v: Version,
-) -> Sent
-    requires { (right_table pool.now table.now ≡ true) × (ordered ≡ true → rising (rows table.now) ≡ true) × (Leads q table.now first) }
-    ensures { Sends v pool.now (page_of v pool.now (length out.old) q.start (files_of q table.now)) out.old result out.new }
+fn fill(out: &mut [u8], table: &Table, first: usize, q: Query, v: Version) -> Sent
+    requires { Leads q table.now.bytes.now (Some first) }
+    ensures { Sends v table.now.pool.now (page_of v table.now.pool.now (length out.old) q.start (files_of q table.now.bytes.now)) out.old result out.new }
 {
     let low = q.low;
     let high = q.high;
     let mut next = q.start;
-    let mut at = first;
+    let mut place = Some(first);
     let mut done = 0;
-    while at < table.len() {
-        let id = le::get(table, at, 8);
-        let count = give(&mut out[done..], pool, table, at, v);
-        if count == 0 {
+    while let Some(at) = place {
+        let id = le::get(table.bytes, at, 8);
+        let Ok(count) = give(&mut out[done..], table.pool, table.bytes, at, v) else {
             return Sent {
                 next: id,
                 count: done,
             };
-        }
+        };
         done += count;
         next = id + 1;
         let rest = Query {
@@ -191,81 +180,76 @@ fn fill(
             low,
             high,
         };
-        at = first_file(table, ordered, at + ROW, rest);
+        place = first_file(table, at + ROW, rest);
     }
     Sent { next, count: done }
 }
 
 // The version to reply in, or the first check of the input that refuses the call.
-fn judge_input(input: &[u8], room: usize) -> Choice
+#[tactic(auto, unfolding(crate::specs::Enumerate::input_check))]
+fn judge_input(input: &[u8], room: usize) -> Result<Version, Status>
     ensures { result ≡ chosen (input_check input.now room) (enum_version input.now) }
 {
     if input.len() < 24 {
-        return Choice::Refuse(Status::InvalidParameter);
+        return Err(Status::InvalidParameter);
     }
-    let choice = input_version(input, 32, 24);
-    match choice {
-        Choice::Refuse(x) => Choice::Refuse(x),
-        Choice::Use(version) => {
-            if room < 8 {
-                return Choice::Refuse(Status::BufferTooSmall);
-            }
-            Choice::Use(version)
-        }
+    let version = input_version(input, 32, 24)?;
+    if room < 8 {
+        return Err(Status::BufferTooSmall);
     }
+    Ok(version)
 }
 
 // Replies with the files of a query: the id to go on from, and their records.
-fn give_files(
-    output: &mut [u8],
-    pool: &[u8],
-    table: &[u8],
-    ordered: bool,
-    q: Query,
-    v: Version,
-) -> Answer
-    requires { (8 ≤ length output.old) × (right_table pool.now table.now ≡ true) × (ordered ≡ true → rising (rows table.now) ≡ true) }
-    ensures { Replied (files_reply v pool.now q table.now (length output.old)) result output.old output.new }
+fn give_files(output: &mut [u8], table: &Table, q: Query, v: Version) -> Result<usize, Status>
+    requires { 8 ≤ length output.old }
+    ensures { Replied (files_reply v table.now.pool.now q table.now.bytes.now (length output.old)) (told result) output.old output.new }
 {
-    let first = first_file(table, ordered, 0, q);
-    if table.len() <= first {
-        return status::refused(Status::EndOfFile);
-    }
-    let sent = fill(&mut output[8..], pool, table, ordered, first, q, v);
+    let Some(first) = first_file(table, 0, q) else {
+        return Err(Status::EndOfFile);
+    };
+    let sent = fill(&mut output[8..], table, first, q, v);
     if sent.count == 0 {
-        return status::refused(Status::BufferTooSmall);
+        return Err(Status::BufferTooSmall);
     }
     le::put(output, 8, sent.next);
-    status::success(8 + sent.count)
+    Ok(8 + sent.count)
 }
 
-// Enumerates the files of a table that is right, in rising order or not.
-fn enumerate_judged(
-    pool: &[u8],
+// Enumerates the files of a table that is right.
+fn enumerate_judged(table: &Table, input: &[u8], output: &mut [u8]) -> Result<usize, Status>
+    ensures { Replied (guard (input_check input.now (length output.old)) (files_reply (enum_version input.now) table.now.pool.now (query_in input.now) table.now.bytes.now (length output.old))) (told result) output.old output.new }
+{
+    let version = judge_input(input, output.len())?;
+    let q = Query {
+        start: le::get(input, 0, 8),
+        low: le::get(input, 8, 8),
+        high: le::get(input, 16, 8),
+    };
+    give_files(output, table, q, version)
+}
+
+// The reply of a whole enumeration.
+#[tactic(auto, unfolding(crate::specs::Enumerate::enum_reply, crate::specs::Enumerate::enum_check))]
+fn reply(
+    v: Volume,
     table: &[u8],
-    ordered: bool,
+    pool: &[u8],
     input: &[u8],
     output: &mut [u8],
-) -> Answer
-    requires { (right_table pool.now table.now ≡ true) × (ordered ≡ true → rising (rows table.now) ≡ true) }
-    ensures { Replied (guard (input_check input.now (length output.old)) (files_reply (enum_version input.now) pool.now (query_in input.now) table.now (length output.old))) result output.old output.new }
+) -> Result<usize, Status>
+    ensures { Replied (enum_reply v table.now pool.now input.now (length output.old)) (told result) output.old output.new }
 {
-    let choice = judge_input(input, output.len());
-    match choice {
-        Choice::Refuse(x) => status::refused(x),
-        Choice::Use(version) => {
-            let q = Query {
-                start: le::get(input, 0, 8),
-                low: le::get(input, 8, 8),
-                high: le::get(input, 16, 8),
-            };
-            give_files(output, pool, table, ordered, q, version)
-        }
+    if v.journal == 0 {
+        return Err(Status::InvalidDeviceRequest);
+    }
+    match Table::judge(table, pool) {
+        None => Err(Status::FileCorruptError),
+        Some(table) => enumerate_judged(&table, input, output),
     }
 }
 
 // Enumerates the files of a table by rising id. Their names stand in the pool.
-#[tactic(auto, unfolding(crate::specs::Enumerate::enum_reply, crate::specs::Enumerate::enum_check))]
 pub fn enumerate_files(
     v: Volume,
     table: &[u8],
@@ -275,13 +259,5 @@ pub fn enumerate_files(
 ) -> Answer
     ensures { Replied (enum_reply v table.now pool.now input.now (length output.old)) result output.old output.new }
 {
-    if v.journal == 0 {
-        return status::refused(Status::InvalidDeviceRequest);
-    }
-    let order = judge_table(pool, table);
-    match order {
-        Order::Bad => status::refused(Status::FileCorruptError),
-        Order::Rising => enumerate_judged(pool, table, true, input, output),
-        Order::Mixed => enumerate_judged(pool, table, false, input, output),
-    }
+    Answer::from(reply(v, table, pool, input, output))
 }

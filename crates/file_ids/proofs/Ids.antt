@@ -1,19 +1,22 @@
 -- Laws of ids.
 -- Assumes nothing.
-use mathlib.Core.Path.{◌≡◌, refl, sym, ap, ◌∙◌}
+use mathlib.Core.Path.{◌≡◌, refl, sym, ap, ap₂, ◌∙◌}
 use mathlib.Core.Bool.{Bool, true, false, not}
 use mathlib.Core.List.{List, [], ◌∷◌, ◌++◌, append-nil}
 use Prim.Native.Nat.{ℕ, zero, suc, ◌+◌, ◌-◌, ◌*◌, ◌^◌, ◌≤◌, ◌<◌}
+use native.Mathlib.Nat.{mul_comm}
 use native.Mathlib.Omega.{arith}
 use native.Mathlib.Numerals.{unary_clauses}
 use lib.Dec.{eqb, lit<}
 use lib.ListN.{length, take, drop, replicate, length-append, length-drop, take-append-drop}
 use lib.Seq.{take_all, take_at, drop_at}
 use borrow.Author.Tests.{eq-eqb, ne_eqb}
+use Rattle.std.specs.Prelude.{slice_index}
+use Rattle.std.specs.Int.{w128, byte_worth, sum_through, from_le_bytes}
 use Rattle.le.specs.Numbers.{le, unle, number_at, encode}
 use Rattle.le.specs.Bytes.{Bytes, all_zero}
 use Rattle.le.proofs.Numbers.{bytes-append, bytes_le, unle-lt, unle-le, le_low, le-unle, length-le}
-use Rattle.le.proofs.Places.{number-split, number_lt, le-number}
+use Rattle.le.proofs.Places.{number-split, number-one, number-whole, number_lt, le-number}
 use Rattle.le.proofs.Runs.{zeroes-are, are-zeroes}
 use Rattle.file_ids.specs.Ids.{Id, wide, id_number, id_bytes}
 use Rattle.file_ids.proofs.Longer.{le-longer, zero-bytes}
@@ -127,6 +130,22 @@ pub narrow-bytes : (n : ℕ) → n < 2 ^ 64 → wide (id_bytes n) ≡ false
 narrow-bytes n h =
     let e : drop 8 (le 16 n) ≡ replicate 8 0 = ap (drop 8) (le-longer 8 8 n h) ∙ drop_at (le 8 n) (replicate 8 0) 8 (length-le 8 n) in
     ap (λ (l : List ℕ). not (all_zero l)) e ∙ ap (λ (t : Bool). not t) (zeroes-are 8)
+
+-- ---- an id read as one number
+
+-- its bytes up to the one at n
+sum-number : (s : List ℕ) (n : ℕ) → n < length s → sum_through (λ i. byte_worth i (slice_index s i)) n ≡ number_at s 0 (suc n)
+sum-number s zero h = number-one s 0 h
+sum-number s (suc n) h =
+    let e : suc n + 1 ≡ suc (suc n) = omega arith in
+    let z : 0 + suc n ≡ suc n = omega arith in
+    ap₂ (λ (a b : ℕ). a + b) (sum-number s n (omega arith)) (mul_comm _ _ ∙ ap (λ (b : ℕ). 256 ^ suc n * b) (number-one s (suc n) h ∙ ap (λ (i : ℕ). number_at s i 1) (sym z)))
+    ∙ sym (number-split s 0 (suc n) 1 (omega arith)) ∙ ap (number_at s 0) e
+
+pub id-read : (id : List ℕ) → Id id → (n : ℕ) → n ≡ from_le_bytes w128 id → n ≡ id_number id
+id-read id d n e =
+    let h : length id ≡ 16 = d.size in
+    e ∙ sum-number id 15 (omega arith) ∙ number-whole id 16 h
 
 -- ---- what the code makes
 

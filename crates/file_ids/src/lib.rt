@@ -4,7 +4,7 @@
 
 ghost use Rattle.std.specs.Prelude.{◌≡◌, ◌+◌, ◌*◌, ◌^◌, ◌≤◌, length};
 ghost use Rattle.le.specs.Numbers.{unle, number_at};
-ghost use Rattle.file_ids.specs.Ids.{wide, id_bytes};
+ghost use Rattle.file_ids.specs.Ids.{wide, id_number, id_bytes};
 
 pub type FileId = [u8; 16];
 
@@ -21,6 +21,13 @@ pub fn half(id: FileId, at: usize) -> u64
     ensures { result ≡ number_at id at 8 }
 {
     le::get(&id, at, 8)
+}
+
+// An id as one number.
+pub fn id_number(id: FileId) -> u128
+    ensures { result ≡ id_number id }
+{
+    u128::from_le_bytes(id)
 }
 
 // The id whose lowest bytes are those of `s`, at most sixteen; the others are zero. A slice whose length is a constant becomes one load.

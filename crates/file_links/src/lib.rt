@@ -56,8 +56,7 @@ pub fn good_table(pool: &[u8], places: &[u32], lengths: &[u32], shorts: &[u32]) 
     if shorts.len() != n {
         return false;
     }
-    let mut i = 0;
-    while i < n {
+    for i in 0..n {
         let link = Link {
             place: places[i],
             length: lengths[i],
@@ -66,7 +65,6 @@ pub fn good_table(pool: &[u8], places: &[u32], lengths: &[u32], shorts: &[u32]) 
         if !good_link(pool, link) {
             return false;
         }
-        i += 1;
     }
     true
 }

@@ -4,7 +4,7 @@ use mathlib.Core.Path.{◌≡◌, refl, sym, ap, ◌∙◌, subst}
 use mathlib.Core.Logic.{◌⊎◌, inl, inr}
 use mathlib.Core.Bool.{Bool, true, false, cond}
 use mathlib.Core.List.{List, [], ◌∷◌, ◌++◌, map, append-nil, append_assoc, Memᴰ}
-use mathlib.Core.Option.{Option, none, some}
+use Rattle.std.specs.Prelude.{Option, None, Some}
 use Prim.Native.Nat.{ℕ, zero, suc, ◌+◌, ◌-◌, ◌≤◌, ◌<◌}
 use native.Mathlib.Omega.{arith}
 use lib.Dec.{leb, eqb}
@@ -48,16 +48,16 @@ joined-grows names name =
 
 -- ---- rows by id
 
-none-some : {A : Type 0} (r : Row) → none ≡ some r → A
+none-some : {A : Type 0} (r : Row) → None ≡ Some r → A
 none-some r e = let z : ◌≡◌ {A = ℕ} 0 1 = cc in absurd (omega arith)
 
 module _ (rs : List Row) (d : distinct rs ≡ true) (n : ℕ) where
   -- none is found: no row has the id
-  lacks : find n rs ≡ none → has_id n rs ≡ false
+  lacks : find n rs ≡ None → has_id n rs ≡ false
   lacks e = has-none n rs (λ x m q. none-some x (sym e ∙ find-some n rs d x m q))
 
   -- no row has the id: none is found
-  unfound : has_id n rs ≡ false → find n rs ≡ none
+  unfound : has_id n rs ≡ false → find n rs ≡ None
   unfound e = find_none n rs (λ x m q. false-true (sym e ∙ has-member n x rs m q))
 
 -- ---- down a chain
@@ -88,7 +88,7 @@ module _ (pool : List ℕ) (rs : List Row) (d : distinct rs ≡ true) (root : �
       ap (λ (j : ℕ). upward pool rs root j last) k ∙ ap (upward pool rs root left) (sym l)
   up-chain (r ∷ chain) top last l n left e =
       let o : eqb (key r) root ≡ false = ne_eqb (key r) root l.2 in
-      let f : find (key r) rs ≡ some r = find-some (key r) rs d r l.0 refl in
+      let f : find (key r) rs ≡ Some r = find-some (key r) rs d r l.0 refl in
       up-chain chain (key r) last l.3 n (suc left) (omega arith)
       ∙ ap (under pool chain) (up_step pool rs root (key r) o left r f ∙ ap (λ (j : ℕ). below (row_name pool r) (upward pool rs root left j)) l.1)
 
@@ -140,8 +140,8 @@ module _ (pool : List ℕ) (rs : List Row) (root : ℕ) where
       go : (b : Bool) (f : Option Row) → eqb id root ≡ b → find id rs ≡ f → ((i : ℕ) → Settled (upward pool rs root (suc left) i) (upward pool rs root left i))
           → Settled (upward pool rs root (suc (suc left)) id) (upward pool rs root (suc left) id)
       go true f e q ih = inl (up_root pool rs root (suc (suc left)) id e ∙ sym (up_root pool rs root (suc left) id e))
-      go false none e q ih = inl (up-lost pool rs root id e (suc left) q ∙ sym (up-lost pool rs root id e left q))
-      go false (some r) e q ih =
+      go false None e q ih = inl (up-lost pool rs root id e (suc left) q ∙ sym (up-lost pool rs root id e left q))
+      go false (Some r) e q ih =
           rw (up_step pool rs root id e (suc left) r q, up_step pool rs root id e left r q)
           (settled-below (row_name pool r) _ _ (ih (id_number r.parent)))
 
@@ -157,7 +157,7 @@ module _ (table pool id root : List ℕ) where
   ends_found top chain l e h = inl (chain_path pool chain, record { chain = chain; leads = subst (λ (t : ℕ). Down t chain) e l; steps = h; names = refl })
 
   -- a chain grows upward
-  longer-chain : (top : ℕ) (chain : List Row) (r : Row) → Down top chain → (top ≡ id_number root → ⊥) → find top (rows table) ≡ some r → Down (id_number r.parent) (r ∷ chain)
+  longer-chain : (top : ℕ) (chain : List Row) (r : Row) → Down top chain → (top ≡ id_number root → ⊥) → find top (rows table) ≡ Some r → Down (id_number r.parent) (r ∷ chain)
   longer-chain top chain r l o f =
       let t = found-row top (rows table) r f in
       (t.0, refl, (λ q. o (sym t.1 ∙ q)), subst (λ (n : ℕ). Down n chain) (sym t.1) l)
@@ -175,9 +175,9 @@ module _ (table pool id root : List ℕ) where
         go : (b : Bool) (f : Option Row) → eqb top (id_number root) ≡ b → find top (rows table) ≡ f
             → ((above : ℕ) (more : List Row) → Down above more → length more + left ≡ 64 → Ends table pool id root) → Ends table pool id root
         go true f e q ih = ends_found top chain l (eqb-true top (id_number root) e) (omega arith)
-        go false none e q ih =
+        go false None e q ih =
             inr (inl (record { top = top; chain = chain; leads = l; steps = omega arith; other = eqb-false top (id_number root) e; absent = lacks (rows table) d top q }))
-        go false (some r) e q ih = ih (id_number r.parent) (r ∷ chain) (longer-chain top chain r l (eqb-false top (id_number root) e) q) (omega arith)
+        go false (Some r) e q ih = ih (id_number r.parent) (r ∷ chain) (longer-chain top chain r l (eqb-false top (id_number root) e) q) (omega arith)
 
     -- up from the file itself
     ends : Ends table pool id root

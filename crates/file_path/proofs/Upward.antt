@@ -3,7 +3,7 @@
 use mathlib.Core.Path.{◌≡◌, refl, sym, ap, ◌∙◌}
 use mathlib.Core.Bool.{Bool, true, false, cond}
 use mathlib.Core.List.{List, [], ◌∷◌, ◌++◌, append_assoc}
-use mathlib.Core.Option.{Option, none, some}
+use Rattle.std.specs.Prelude.{Option, None, Some}
 use Prim.Native.Nat.{ℕ, zero, suc}
 use native.Mathlib.Omega.{arith}
 use lib.Dec.{eqb}
@@ -45,11 +45,11 @@ module _ (pool : List ℕ) (rs : List Row) (root : ℕ) where
     up-spent = rw e
 
     module _ (left : ℕ) where
-      pub up-lost : find id rs ≡ none → upward pool rs root (suc left) id ≡ stopped ObjectPathNotFound
+      pub up-lost : find id rs ≡ None → upward pool rs root (suc left) id ≡ stopped ObjectPathNotFound
       unfolding upward
       up-lost f = rw (e, f)
 
-      pub up_step : (r : Row) → find id rs ≡ some r → upward pool rs root (suc left) id ≡ below (row_name pool r) (upward pool rs root left (id_number r.parent))
+      pub up_step : (r : Row) → find id rs ≡ Some r → upward pool rs root (suc left) id ≡ below (row_name pool r) (upward pool rs root left (id_number r.parent))
       unfolding upward
       up_step r f = rw (e, f)
 
@@ -78,8 +78,8 @@ module _ (pool : List ℕ) (rs : List Row) (root : ℕ) where
   up-empty left id names e = at-root (eqb id root) refl left e
     where
       from : (left : ℕ) → eqb id root ≡ false → (o : Option Row) → find id rs ≡ o → upward pool rs root (suc left) id ≡ reached names → is_nil names ≡ false
-      from left b none f e = stopped-reached ObjectPathNotFound names (sym (up-lost pool rs root id b left f) ∙ e)
-      from left b (some r) f e = below-some (row_name pool r) (upward pool rs root left (id_number r.parent)) names (sym (up_step pool rs root id b left r f) ∙ e)
+      from left b None f e = stopped-reached ObjectPathNotFound names (sym (up-lost pool rs root id b left f) ∙ e)
+      from left b (Some r) f e = below-some (row_name pool r) (upward pool rs root left (id_number r.parent)) names (sym (up_step pool rs root id b left r f) ∙ e)
 
       at-root : (b : Bool) → eqb id root ≡ b → (left : ℕ) → upward pool rs root left id ≡ reached names → is_nil names ≡ b
       at-root true b left e = ap is_nil (sym (same_names (sym (up_root pool rs root left id b) ∙ e)))

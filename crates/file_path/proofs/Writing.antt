@@ -3,6 +3,7 @@
 use mathlib.Core.Path.{◌≡◌, refl, sym, ap, ◌∙◌, subst}
 use mathlib.Core.Bool.{Bool, true, false, cond}
 use mathlib.Core.List.{List, [], ◌++◌}
+use Rattle.std.specs.Prelude.{Option, None, Some, IsSome}
 use Prim.Native.Nat.{ℕ, ◌+◌, ◌-◌, ◌≤◌}
 use native.Mathlib.Omega.{arith}
 use lib.Dec.{eqb}
@@ -11,12 +12,12 @@ use Rattle.le.specs.Numbers.{le, number_at}
 use Rattle.le.proofs.Tail.{lent, back, Put, put_first, put_next}
 use Rattle.status.specs.declared.Status.{Status}
 use Rattle.file_ids.specs.Ids.{id_number}
-use Rattle.file_table.specs.Table.{Row, rows, row_name, good_row, right_table}
-use Rattle.file_table.specs.Steps.{row_at, Stands}
+use Rattle.file_table.specs.Table.{Row, rows, row_name, good_row, Stands}
+use Rattle.file_table.specs.Steps.{row_at}
 use Rattle.file_path.specs.Path.{Way, stopped, below, upward, separator, joined}
 use Rattle.file_path.specs.Steps.{is_reached, path_of, Fits, part, Writes}
 use Rattle.file_path.proofs.Upward.{up_root, up-spent, below-path, below-reached}
-use Rattle.file_path.proofs.Placing.{run-name, run_length, at-end, at_row}
+use Rattle.file_path.proofs.Placing.{run-name, run_length, no_row, at_row}
 
 -- a run that was put at the start
 put-writes : {run out last : List ℕ} {n : ℕ} → Put out n run last → Writes run out n last
@@ -66,16 +67,18 @@ module _ (pool table : List ℕ) (at : ℕ) (g : good_row pool (row_at table at)
 
 -- ---- the path of an id that has one
 
-module _ (pool table : List ℕ) (g : right_table pool table ≡ true) (root left id at room : ℕ) (e : eqb id root ≡ false) (f : Fits (upward pool (rows table) root left id) room) (s : Stands id table at) where
+module _ (pool table : List ℕ) (root left id room : ℕ) (e : eqb id root ≡ false) (f : Fits (upward pool (rows table) root left id) room) where
   unreached : {x : Status} → upward pool (rows table) root left id ≡ stopped x → ⊥
   unreached q = let z : false ≡ true = ap is_reached (sym q) ∙ f.0 in let o : ◌≡◌ {A = ℕ} 0 1 = cc in omega arith
 
   pub some_left : left ≡ 0 → ⊥
   some_left z = unreached (ap (λ (k : ℕ). upward pool (rows table) root k id) z ∙ up-spent pool (rows table) root id e)
 
-  pub some-row : at ≡ length table → ⊥
-  some-row z = unreached (at-end pool table g root left id e some_left at s z)
+  pub some_row : (r : Option ℕ) → Stands id table r → IsSome r
+  some_row (Some at) s = refl
+  some_row None s = absurd (unreached (no_row pool table root left id e some_left s))
 
+module _ (pool table : List ℕ) (root left id room : ℕ) (e : eqb id root ≡ false) (f : Fits (upward pool (rows table) root left id) room) (at : ℕ) (s : Stands id table (Some at)) where
   module _ (parent : ℕ) (p : parent ≡ id_number (row_at table at).parent) where
     abbrev own : Row
     own = row_at table at
@@ -84,7 +87,7 @@ module _ (pool table : List ℕ) (g : right_table pool table ≡ true) (root lef
     above = upward pool (rows table) root (left - 1) parent
 
     whole : upward pool (rows table) root left id ≡ below (row_name pool own) above
-    whole = at_row pool table g root left id e some_left at s some-row ∙ ap (λ (j : ℕ). below (row_name pool own) (upward pool (rows table) root (left - 1) j)) (sym p)
+    whole = at_row pool table root left id e (some_left pool table root left id room e f) at s ∙ ap (λ (j : ℕ). below (row_name pool own) (upward pool (rows table) root (left - 1) j)) (sym p)
 
     above-reached : is_reached above ≡ true
     above-reached = sym (below-reached pool (rows table) root (left - 1) parent (row_name pool own)) ∙ ap is_reached (sym whole) ∙ f.0

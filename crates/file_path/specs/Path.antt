@@ -1,6 +1,5 @@
 -- A file's path: the names of the files on the way from a root down to it, from a table of the volume's files.
-use Rattle.std.specs.Prelude.{cond, List, [], ◌∷◌, ◌++◌, ℕ, zero, suc, leb, eqb, length}
-use Rattle.std.proofs.Math.Option.{Option, none, some}
+use Rattle.std.specs.Prelude.{cond, List, [], ◌∷◌, ◌++◌, ℕ, zero, suc, leb, eqb, length, Option, None, Some}
 use Rattle.status.specs.declared.Status.{Status}
 use Rattle.status.specs.declared.Status.TheVariants.{Success, BufferTooSmall, ObjectPathNotFound, FileCorruptError, NameTooLong}
 use Rattle.status.specs.Check.{unless}
@@ -22,8 +21,8 @@ below name (stopped x) = stopped x
 
 -- a step goes from the row of an id to its parent; where the table has no such row, there is no path
 abbrev pub step : List ℕ → Option Row → (ℕ → Way) → Way
-step pool none onward = stopped ObjectPathNotFound
-step pool (some r) onward = below (row_name pool r) (onward (id_number r.parent))
+step pool None onward = stopped ObjectPathNotFound
+step pool (Some r) onward = below (row_name pool r) (onward (id_number r.parent))
 
 -- up from an id with so many steps left: it is the root; or no step is left; or a step is taken, and leaves one fewer
 unfoldable pub upward : List ℕ → List Row → ℕ → ℕ → ℕ → Way

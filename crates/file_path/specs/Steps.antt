@@ -1,16 +1,15 @@
 -- A path as the code makes it: its length first, then its bytes.
-use Rattle.std.specs.Prelude.{◌≡◌, Bool, true, false, cond, List, [], ◌++◌, ℕ, ◌≤◌, length, drop}
+use Rattle.std.specs.Prelude.{◌≡◌, Bool, true, false, cond, List, [], ◌++◌, ℕ, ◌≤◌, length, drop, Result, Ok, Err}
 use Rattle.file_table.specs.Table.{Row, row_name}
-use Rattle.file_path.specs.declared.Extent.{Extent}
-use Rattle.file_path.specs.declared.Extent.TheVariants.{Bytes, Refused}
+use Rattle.status.specs.declared.Status.{Status}
 use Rattle.file_path.specs.Path.{Way, reached, stopped, joined, separator}
 
 -- ---- its length
 
 -- how many bytes the path has, or why there is none
-abbrev pub extent_of : Way → Extent
-extent_of (reached names) = Bytes (length (joined names))
-extent_of (stopped x) = Refused x
+abbrev pub extent_of : Way → Result ℕ Status
+extent_of (reached names) = Ok (length (joined names))
+extent_of (stopped x) = Err x
 
 -- ---- its bytes
 

@@ -5,7 +5,7 @@ use file_ids::FileId;
 
 // Sizes and Usn are bit patterns of 64 bits; a control refuses what is out of range.
 #[repr(C)]
-#[derive(Clone, Copy)]
+#[derive(Clone, Copy, Debug, PartialEq, Eq)]
 pub struct FileRecord {
     pub id: FileId,
     pub usn: u64,

@@ -2,7 +2,7 @@
 -- Assumes nothing.
 use mathlib.Core.Path.{◌≡◌, refl, sym, ap, ap₂, ◌∙◌}
 use mathlib.Core.Bool.{Bool, true, false, cond}
-use mathlib.Core.Option.{none}
+use Rattle.std.specs.Prelude.{None}
 use mathlib.Core.List.{List, [], ◌∷◌, ◌++◌, append-nil}
 use Prim.Native.Nat.{ℕ, suc, ◌+◌, ◌-◌, ◌*◌, ◌%◌, ◌^◌, ◌<◌, min}
 use native.Mathlib.Omega.{arith}
@@ -96,7 +96,7 @@ module _ (f : FileRecord) (a : Asked) (w : Crosses f a) where
   left_back : asked_of (input_for (left f a)) ≡ left f a
   left_back = asked-back (left f a) (omega arith) (omega arith) w.narrow
 
-  left-passes : asked_check (left f a) ≡ none
+  left-passes : asked_check (left f a) ≡ None
   left-passes = asked-passes (left f a) (omega arith) (omega arith) w.odd
 
   left-inside : is_outside f.eof f.valid ≡ false

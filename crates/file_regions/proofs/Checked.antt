@@ -2,7 +2,7 @@
 -- Assumes nothing.
 use mathlib.Core.Path.{◌≡◌, refl}
 use mathlib.Core.Bool.{Bool, true, false, cond, ◌&&◌, ◌||◌}
-use mathlib.Core.Option.{none}
+use Rattle.std.specs.Prelude.{None}
 use mathlib.Core.List.{List, [], ◌∷◌}
 use Prim.Native.Nat.{ℕ, ◌+◌, ◌-◌, ◌*◌, ◌%◌, ◌^◌, ◌<◌, ◌≤◌, min}
 use native.Mathlib.Omega.{arith}
@@ -33,10 +33,10 @@ pub record Passed (v : Volume) (f : FileRecord) (input : List ℕ) (room : ℕ) 
   pub has : supported v.regions ≡ true
   pub sizes : good_sizes f ≡ true
   pub long : eqb (length input) 0 || leb 24 (length input) ≡ true
-  pub asked : asked_check (asked_of input) ≡ none
+  pub asked : asked_check (asked_of input) ≡ None
   pub space : leb 40 room ≡ true
 
-pub passed : (v : Volume) (f : FileRecord) (input : List ℕ) (room : ℕ) → regions_check v f input room ≡ none → Passed v f input room
+pub passed : (v : Volume) (f : FileRecord) (input : List ℕ) (room : ℕ) → regions_check v f input room ≡ None → Passed v f input room
 unfolding regions_check
 passed v f input room e =
     let n = length input in
@@ -57,7 +57,7 @@ passed v f input room e =
       space = unless-true (leb 40 room) BufferTooSmall z.1;
     }
 
-pub passes : (v : Volume) (f : FileRecord) (input : List ℕ) (room : ℕ) → Passed v f input room → regions_check v f input room ≡ none
+pub passes : (v : Volume) (f : FileRecord) (input : List ℕ) (room : ℕ) → Passed v f input room → regions_check v f input room ≡ None
 unfolding regions_check
 passes v f input room p = rw (p.has, p.sizes, p.long, p.asked, p.space)
 
@@ -83,21 +83,21 @@ past-checks v f input room x u e =
 -- ---- what is asked for
 
 -- by a call that has passed its checks
-pub asked-facts : (a : Asked) → asked_check a ≡ none → (0 < a.length) × (a.offset + a.length < 2 ^ 63) × (eqb (a.usage % 2) 1 ≡ true)
+pub asked-facts : (a : Asked) → asked_check a ≡ None → (0 < a.length) × (a.offset + a.length < 2 ^ 63) × (eqb (a.usage % 2) 1 ≡ true)
 unfolding asked_check
 asked-facts a e =
-    let some = ltb 0 a.length in
+    let above = ltb 0 a.length in
     let near = ltb (a.offset + a.length) (2 ^ 63) in
     let odd = eqb (a.usage % 2) 1 in
-    let l = else-none (unless (some && ltb a.length (2 ^ 63)) InvalidParameter) (else (unless near InvalidParameter) (unless odd InvalidParameter)) e in
+    let l = else-none (unless (above && ltb a.length (2 ^ 63)) InvalidParameter) (else (unless near InvalidParameter) (unless odd InvalidParameter)) e in
     let k = else-none (unless near InvalidParameter) (unless odd InvalidParameter) l.1 in (
-      ltb-true 0 a.length (and_left some _ (unless-true (some && ltb a.length (2 ^ 63)) InvalidParameter l.0)),
+      ltb-true 0 a.length (and_left above _ (unless-true (above && ltb a.length (2 ^ 63)) InvalidParameter l.0)),
       ltb-true _ _ (unless-true near InvalidParameter k.0),
       unless-true odd InvalidParameter k.1,
     )
 
 -- and what passes them
-pub asked-passes : (a : Asked) → 0 < a.length → a.offset + a.length < 2 ^ 63 → eqb (a.usage % 2) 1 ≡ true → asked_check a ≡ none
+pub asked-passes : (a : Asked) → 0 < a.length → a.offset + a.length < 2 ^ 63 → eqb (a.usage % 2) 1 ≡ true → asked_check a ≡ None
 unfolding asked_check
 asked-passes a h k e = rw (lt-ltb 0 a.length h, lt-ltb a.length (2 ^ 63) (omega arith), lt-ltb (a.offset + a.length) (2 ^ 63) k, e)
 

@@ -2,7 +2,7 @@
 -- Assumes nothing.
 use mathlib.Core.Path.{◌≡◌, refl, sym, ap, ap₂, subst, ◌∙◌}
 use mathlib.Core.Bool.{Bool, true, false, cond, ◌&&◌}
-use mathlib.Core.Option.{none}
+use Rattle.std.specs.Prelude.{None}
 use mathlib.Core.List.{List, [], ◌∷◌, ◌++◌, append-nil}
 use Prim.Native.Nat.{ℕ, ◌+◌, ◌-◌, ◌*◌, ◌%◌, ◌^◌, ◌≤◌, ◌<◌, min}
 use native.Mathlib.Omega.{arith}
@@ -309,7 +309,7 @@ module _ (v : Volume) (f : FileRecord) (room : ℕ) (h : 64 ≤ room) where
       (p, k.0, k.1, k.2)
 
   -- a range that passes its checks succeeds if another did
-  asked-succeeds : (input : List ℕ) (a : Asked) {other : List ℕ} → Asks input a → Passed v f other room → asked_check a ≡ none
+  asked-succeeds : (input : List ℕ) (a : Asked) {other : List ℕ} → Asks input a → Passed v f other room → asked_check a ≡ None
       → Succeeds (regions_reply v f input room)
   asked-succeeds input a q p e =
       succeeds v f input room (record { has = p.has; sizes = p.sizes; long = q.long; asked = ap asked_check q.range ∙ e; space = p.space }) h

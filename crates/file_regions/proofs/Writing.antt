@@ -53,3 +53,6 @@ pub second-put : (first second : Region) (o l1 l2 : List ℕ) → 64 ≤ length 
 second-put first second o l1 l2 h q1 q2 =
     (put_next (put_first 40 (front 2 2 first) o l1 (length_front 2 2 first) q1) 24 (region_bytes second) l2 (length-region second) h q2).whole
     ∙ ap (λ (l : List ℕ). l ++ drop 64 o) (append_assoc (regions_header 2 2) (region_bytes first) (region_bytes second))
+
+-- what each part of a reply is written by
+pub ruleset puts = (header-put, region-put, front-put)

@@ -1,6 +1,5 @@
 -- FSCTL_QUERY_FILE_REGIONS: what is asked, the regions, and the reply.
-use Rattle.std.specs.Prelude.{Bool, cond, ◌&&◌, ◌||◌, List, [], ◌∷◌, ◌++◌, ℕ, ◌+◌, ◌-◌, ◌*◌, ◌%◌, ◌^◌, min, leb, ltb, eqb, length, take}
-use Rattle.std.proofs.Math.Option.{Option}
+use Rattle.std.specs.Prelude.{Bool, cond, ◌&&◌, ◌||◌, List, [], ◌∷◌, ◌++◌, ℕ, ◌+◌, ◌-◌, ◌*◌, ◌%◌, ◌^◌, min, leb, ltb, eqb, length, take, Option}
 use Rattle.le.specs.Numbers.{number_at, encode}
 use Rattle.status.specs.declared.Status.{Status}
 use Rattle.status.specs.declared.Status.TheVariants.{Success, BufferOverflow, InvalidParameter, InvalidDeviceRequest, BufferTooSmall, FileCorruptError}

@@ -1,18 +1,17 @@
 // FSCTL_QUERY_FILE_REGIONS: which part of a file's range holds valid data.
 #![tactic(auto)]
 
-ghost use Rattle.std.specs.Prelude.{◌≡◌, true, ◌||◌, ◌++◌, ◌≤◌, min, leb, eqb, length, drop};
-ghost use Rattle.std.proofs.Math.Option.{none};
+ghost use Rattle.std.specs.Prelude.{◌≡◌, true, ◌||◌, ◌++◌, ◌≤◌, min, leb, eqb, length, drop, None};
 ghost use Rattle.status.specs.Check.{judged};
 ghost use Rattle.status.specs.Reply.{Replied};
 ghost use Rattle.file_regions.specs.Regions.{asked_of, good_sizes, asked_check, regions_check, first_region, second_due, second_region, is_outside, regions_header, region_bytes, regions_answer, regions_reply};
 
 use file_record::FileRecord;
-use status::{Answer, Judged, Status};
+use status::{Answer, Status};
 use volume::Volume;
 
 // What a caller asks for.
-#[derive(Clone, Copy)]
+#[derive(Clone, Copy, Debug, PartialEq, Eq)]
 pub struct Asked {
     pub offset: u64,
     pub length: u64,
@@ -20,7 +19,7 @@ pub struct Asked {
 }
 
 // One region of the reply.
-#[derive(Clone, Copy)]
+#[derive(Clone, Copy, Debug, PartialEq, Eq)]
 pub struct Region {
     pub offset: u64,
     pub length: u64,
@@ -28,11 +27,12 @@ pub struct Region {
 }
 
 // What the input asks for.
+#[tactic(auto, unfolding(crate::specs::Regions::asked_of))]
 fn read_asked(input: &[u8]) -> Asked
     requires { eqb (length input.now) 0 || leb 24 (length input.now) ≡ true }
     ensures { result ≡ asked_of input.now }
 {
-    if input.len() == 0 {
+    if input.is_empty() {
         return Asked {
             offset: 0,
             length: 0x7FFF_FFFF_FFFF_FFFF,
@@ -47,25 +47,27 @@ fn read_asked(input: &[u8]) -> Asked
 }
 
 // Judges what is asked for.
-fn judge_asked(a: Asked) -> Judged
+#[tactic(auto, unfolding(crate::specs::Regions::asked_check))]
+fn judge_asked(a: Asked) -> Result<(), Status>
     ensures { result ≡ judged (asked_check a) }
 {
     if a.length == 0 {
-        return Judged::Refused(Status::InvalidParameter);
+        return Err(Status::InvalidParameter);
     }
     if 0x7FFF_FFFF_FFFF_FFFF < a.length {
-        return Judged::Refused(Status::InvalidParameter);
+        return Err(Status::InvalidParameter);
     }
     if 0x7FFF_FFFF_FFFF_FFFF - a.length < a.offset {
-        return Judged::Refused(Status::InvalidParameter);
+        return Err(Status::InvalidParameter);
     }
     if a.usage % 2 != 1 {
-        return Judged::Refused(Status::InvalidParameter);
+        return Err(Status::InvalidParameter);
     }
-    Judged::Passed
+    Ok(())
 }
 
 // Whether the file record's sizes are right.
+#[tactic(auto, unfolding(crate::specs::Regions::good_sizes))]
 fn good_sizes(f: FileRecord) -> bool
     ensures { result ≡ good_sizes f }
 {
@@ -76,40 +78,28 @@ fn good_sizes(f: FileRecord) -> bool
 }
 
 // Judges the call, in the order of the checks.
-fn judge_regions(v: Volume, f: FileRecord, input: &[u8], room: usize) -> Judged
+#[tactic(auto, unfolding(crate::specs::Regions::regions_check))]
+fn judge_regions(v: Volume, f: FileRecord, input: &[u8], room: usize) -> Result<(), Status>
     ensures { result ≡ judged (regions_check v f input.now room) }
 {
     if v.regions == 0 {
-        return Judged::Refused(Status::InvalidDeviceRequest);
+        return Err(Status::InvalidDeviceRequest);
     }
     if !good_sizes(f) {
-        return Judged::Refused(Status::FileCorruptError);
+        return Err(Status::FileCorruptError);
     }
-    let size = input.len();
-    if 0 < size {
-        if size < 24 {
-            return Judged::Refused(Status::BufferTooSmall);
-        }
+    if !input.is_empty() && input.len() < 24 {
+        return Err(Status::BufferTooSmall);
     }
-    let asked = judge_asked(read_asked(input));
-    match asked {
-        Judged::Refused(x) => Judged::Refused(x),
-        Judged::Passed => {
-            if room < 40 {
-                return Judged::Refused(Status::BufferTooSmall);
-            }
-            Judged::Passed
-        }
+    judge_asked(read_asked(input))?;
+    if room < 40 {
+        return Err(Status::BufferTooSmall);
     }
-}
-
-fn smaller(a: u64, b: u64) -> u64
-    ensures { result ≡ min a b }
-{
-    if a < b { a } else { b }
+    Ok(())
 }
 
 // Whether an offset lies behind the file, or at the end of one that isn't empty.
+#[tactic(auto, unfolding(crate::specs::Regions::is_outside))]
 fn is_outside(eof: u64, offset: u64) -> bool
     ensures { result ≡ is_outside eof offset }
 {
@@ -123,6 +113,7 @@ fn is_outside(eof: u64, offset: u64) -> bool
 }
 
 // The first region, from the offset on.
+#[tactic(auto, unfolding(crate::specs::Regions::first_region))]
 fn first_region(eof: u64, vdl: u64, a: Asked) -> Region
     requires { a.offset ≤ eof }
     ensures { result ≡ first_region eof vdl a }
@@ -130,18 +121,19 @@ fn first_region(eof: u64, vdl: u64, a: Asked) -> Region
     if vdl <= a.offset {
         return Region {
             offset: a.offset,
-            length: smaller(a.length, eof - a.offset),
+            length: a.length.min(eof - a.offset),
             usage: 0,
         };
     }
     Region {
         offset: a.offset,
-        length: smaller(vdl - a.offset, a.length),
+        length: a.length.min(vdl - a.offset),
         usage: a.usage,
     }
 }
 
 // Whether a second region is due behind the valid data, where the first is `first`.
+#[tactic(auto, unfolding(crate::specs::Regions::second_due, crate::specs::Regions::first_region))]
 fn second_due(eof: u64, vdl: u64, a: Asked, first: Region) -> bool
     requires { first ≡ first_region eof vdl a }
     ensures { result ≡ second_due eof vdl a }
@@ -156,18 +148,20 @@ fn second_due(eof: u64, vdl: u64, a: Asked, first: Region) -> bool
 }
 
 // The second region.
+#[tactic(auto, unfolding(crate::specs::Regions::second_region, crate::specs::Regions::second_due, crate::specs::Regions::first_region))]
 fn second_region(eof: u64, vdl: u64, a: Asked, first: Region) -> Region
     requires { (first ≡ first_region eof vdl a) × (second_due eof vdl a ≡ true) }
     ensures { result ≡ second_region eof vdl a }
 {
     Region {
         offset: vdl,
-        length: smaller(a.length - first.length, eof - vdl),
+        length: (a.length - first.length).min(eof - vdl),
         usage: 0,
     }
 }
 
 // Writes Flags, both counts and Reserved.
+#[tactic(auto, using(crate::proofs::Writing::puts))]
 fn put_header(out: &mut [u8], total: u64, given: u64)
     requires { 16 ≤ length out.old }
     ensures { out.new ≡ regions_header total given ++ drop 16 out.old }
@@ -177,6 +171,7 @@ fn put_header(out: &mut [u8], total: u64, given: u64)
 }
 
 // Writes one region.
+#[tactic(auto, using(crate::proofs::Writing::puts))]
 fn put_region(out: &mut [u8], r: Region)
     requires { 24 ≤ length out.old }
     ensures { out.new ≡ region_bytes r ++ drop 24 out.old }
@@ -186,6 +181,7 @@ fn put_region(out: &mut [u8], r: Region)
 }
 
 // Writes the front of a reply: the header and the first region.
+#[tactic(auto, using(crate::proofs::Writing::puts))]
 fn put_front(out: &mut [u8], total: u64, given: u64, first: Region)
     requires { 40 ≤ length out.old }
     ensures { out.new ≡ (regions_header total given ++ region_bytes first) ++ drop 40 out.old }
@@ -195,17 +191,18 @@ fn put_front(out: &mut [u8], total: u64, given: u64, first: Region)
 }
 
 // Replies to a call that has passed its checks.
+#[tactic(auto, unfolding(crate::specs::Regions::is_outside, crate::specs::Regions::regions_answer))]
 fn reply_regions(f: FileRecord, a: Asked, output: &mut [u8]) -> Answer
-    requires { (good_sizes f ≡ true) × (asked_check a ≡ none) × (40 ≤ length output.old) }
+    requires { (good_sizes f ≡ true) × (asked_check a ≡ None) × (40 ≤ length output.old) }
     ensures { Replied (regions_answer f a (length output.old)) result output.old output.new }
 {
     if is_outside(f.eof, a.offset) {
-        return status::success(0);
+        return Answer::from(Ok(0));
     }
     let first = first_region(f.eof, f.valid, a);
     if !second_due(f.eof, f.valid, a, first) {
         put_front(output, 1, 1, first);
-        return status::success(40);
+        return Answer::from(Ok(40));
     }
     let second = second_region(f.eof, f.valid, a, first);
     if output.len() < 64 {
@@ -217,16 +214,16 @@ fn reply_regions(f: FileRecord, a: Asked, output: &mut [u8]) -> Answer
     }
     put_front(output, 2, 2, first);
     put_region(&mut output[40..], second);
-    status::success(64)
+    Answer::from(Ok(64))
 }
 
 // Queries the regions of a file.
+#[tactic(auto, unfolding(crate::specs::Regions::regions_check, crate::specs::Regions::regions_reply))]
 pub fn query_file_regions(v: Volume, f: FileRecord, input: &[u8], output: &mut [u8]) -> Answer
     ensures { Replied (regions_reply v f input.now (length output.old)) result output.old output.new }
 {
-    let call = judge_regions(v, f, input, output.len());
-    match call {
-        Judged::Refused(x) => status::refused(x),
-        Judged::Passed => reply_regions(f, read_asked(input), output),
+    match judge_regions(v, f, input, output.len()) {
+        Ok(()) => reply_regions(f, read_asked(input), output),
+        Err(status) => Answer::from(Err(status)),
     }
 }

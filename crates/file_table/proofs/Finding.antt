@@ -4,15 +4,15 @@ use mathlib.Core.Path.{◌≡◌, refl, sym, ap, ◌∙◌, subst}
 use mathlib.Core.Logic.{◌⊎◌, inl, inr}
 use mathlib.Core.Bool.{Bool, true, false, cond}
 use mathlib.Core.List.{List, [], ◌∷◌, ◌++◌, Memᴰ}
-use mathlib.Core.Option.{none, some}
+use Rattle.std.specs.Prelude.{None, Some}
 use Prim.Native.Nat.{ℕ, zero, suc, ◌+◌, ◌-◌, ◌*◌, ◌/◌, ◌%◌, ◌≤◌, ◌<◌}
 use native.Mathlib.Omega.{arith}
 use lib.Dec.{ltb, eqb}
 use lib.ListN.{length, drop, length-drop}
 use lib.Seq.{drop-drop}
-use borrow.Author.Tests.{eq-eqb, ne_eqb, eqb-true, lt-ltb, le-ltb, ltb-true, ltb-false}
-use Rattle.file_table.specs.Table.{Row, row_in, first_rows, rows, find, distinct, rising}
-use Rattle.file_table.specs.Steps.{row_at, id_at, Stands, Parts}
+use borrow.Author.Tests.{eq-eqb, ne_eqb, eqb-true, ltb-true, ltb-false}
+use Rattle.file_table.specs.Table.{Row, row_in, first_rows, rows, find, distinct, rising, Stands}
+use Rattle.file_table.specs.Steps.{row_at, id_at, Parts}
 use Rattle.file_table.proofs.Rows.{rows_end, rows_next}
 use Rattle.file_table.proofs.Rising.{key, first-once, distinct-rest, rising-rest, rising-below, rising-distinct}
 use Rattle.file_table.proofs.Places.{row-split, row-member}
@@ -20,51 +20,44 @@ use Rattle.file_table.proofs.Places.{row-split, row-member}
 -- ---- among rows
 
 -- no row has the id
-pub find_none : (n : ℕ) (rs : List Row) → ((x : Row) → Memᴰ x rs → key x ≡ n → ⊥) → find n rs ≡ none
+pub find_none : (n : ℕ) (rs : List Row) → ((x : Row) → Memᴰ x rs → key x ≡ n → ⊥) → find n rs ≡ None
 unfolding find
 find_none n [] h = refl
 find_none n (y ∷ ys) h = rw (ne_eqb (key y) n (h y (mathlib.Core.List.Memᴰ.head refl))) (find_none n ys (λ x m. h x (mathlib.Core.List.Memᴰ.tail m)))
 
 -- a row has it
-pub find-some : (n : ℕ) (rs : List Row) → distinct rs ≡ true → (x : Row) → Memᴰ x rs → key x ≡ n → find n rs ≡ some x
+pub find-some : (n : ℕ) (rs : List Row) → distinct rs ≡ true → (x : Row) → Memᴰ x rs → key x ≡ n → find n rs ≡ Some x
 unfolding find
 find-some n [] d x m e = absurd (mathlib.Core.List.Memᴰ.not-nil m)
 find-some n (y ∷ ys) d x m e = go (mathlib.Core.List.Memᴰ.cases_cons m) (find-some n ys (distinct-rest y ys d) x)
   where
-    go : (x ≡ y) ⊎ Memᴰ x ys → (Memᴰ x ys → key x ≡ n → find n ys ≡ some x) → cond (eqb (key y) n) (some y) (find n ys) ≡ some x
-    go (inl p) ih = rw (eq-eqb (key y) n (ap key (sym p) ∙ e)) (ap some (sym p))
+    go : (x ≡ y) ⊎ Memᴰ x ys → (Memᴰ x ys → key x ≡ n → find n ys ≡ Some x) → cond (eqb (key y) n) (Some y) (find n ys) ≡ Some x
+    go (inl p) ih = rw (eq-eqb (key y) n (ap key (sym p) ∙ e)) (ap Some (sym p))
     go (inr p) ih = rw (ne_eqb (key y) n (λ q. first-once y ys d x p (e ∙ sym q))) (ih p e)
 
 -- what is found is a row with the id
-pub found-row : (n : ℕ) (rs : List Row) (x : Row) → find n rs ≡ some x → Memᴰ x rs × (key x ≡ n)
+pub found-row : (n : ℕ) (rs : List Row) (x : Row) → find n rs ≡ Some x → Memᴰ x rs × (key x ≡ n)
 unfolding find
 found-row n [] x e = absurd (none-some e)
   where
-    none-some : {A : Type 0} {a : A} → none ≡ some a → ⊥
+    none-some : {A : Type 0} {a : A} → None ≡ Some a → ⊥
     none-some q = let z : ◌≡◌ {A = ℕ} 0 1 = cc in omega arith
 found-row n (y ∷ ys) x e = go (eqb (key y) n) refl (found-row n ys x) e
   where
-    go : (b : Bool) → eqb (key y) n ≡ b → (find n ys ≡ some x → Memᴰ x ys × (key x ≡ n)) → cond b (some y) (find n ys) ≡ some x → Memᴰ x (y ∷ ys) × (key x ≡ n)
+    go : (b : Bool) → eqb (key y) n ≡ b → (find n ys ≡ Some x → Memᴰ x ys × (key x ≡ n)) → cond b (Some y) (find n ys) ≡ Some x → Memᴰ x (y ∷ ys) × (key x ≡ n)
     go true q ih e = let p : y ≡ x = cc in (mathlib.Core.List.Memᴰ.head (sym p), ap key (sym p) ∙ eqb-true (key y) n q)
     go false q ih e = (mathlib.Core.List.Memᴰ.tail (ih e).0, (ih e).1)
 
 -- ---- from a place on
 
 module _ (n : ℕ) (s : List ℕ) (at : ℕ) where
-  pub find-end : length s ≤ at → find n (rows (drop at s)) ≡ none
+  pub find-end : length s ≤ at → find n (rows (drop at s)) ≡ None
   unfolding find
   find-end h = ap (find n) (rows_end s at (omega arith))
 
-  pub find-next : at + 56 ≤ length s → find n (rows (drop at s)) ≡ cond (eqb (id_at s at) n) (some (row_at s at)) (find n (rows (drop (at + 56) s)))
+  pub find-next : at + 56 ≤ length s → find n (rows (drop at s)) ≡ cond (eqb (id_at s at) n) (Some (row_at s at)) (find n (rows (drop (at + 56) s)))
   unfolding find
   find-next h = ap (find n) (rows_next s at h)
-
--- a row that stands at the place, or none behind it
-pub stands_here : (n : ℕ) (s : List ℕ) (at : ℕ) → at + 56 ≤ length s → at % 56 ≡ 0 → find n (rows s) ≡ some (row_at s at) → Stands n s at
-stands_here n s at h w e = (rw (lt-ltb at (length s) (omega arith)) e, omega arith, w)
-
-pub stands-none : (n : ℕ) (s : List ℕ) → length s % 56 ≡ 0 → find n (rows s) ≡ none → Stands n s (length s)
-stands-none n s w e = (rw (le-ltb (length s) (length s) (omega arith)) e, omega arith, w)
 
 -- ---- among rows by rising id
 
@@ -106,12 +99,12 @@ module _ (s : List ℕ) (g : rising (rows s) ≡ true) where
 
   module _ (n at : ℕ) (p : Parts n s at) where
     -- the row at the place has the id
-    pub parts-found : at + 56 ≤ length s → id_at s at ≡ n → Stands n s at
-    parts-found h e = stands_here n s at h p.whole (find-some n (rows s) (rising-distinct (rows s) g) (row_at s at) (row-member s at p.whole h) e)
+    pub parts-found : at + 56 ≤ length s → id_at s at ≡ n → Stands n s (Some at)
+    parts-found h e = (find-some n (rows s) (rising-distinct (rows s) g) (row_at s at) (row-member s at p.whole h) e, h, p.whole)
 
     -- it has not, or there is none
-    pub parts_none : length s % 56 ≡ 0 → (at < length s → id_at s at ≡ n → ⊥) → Stands n s (length s)
-    parts_none w o = stands-none n s w (find_none n (rows s) other)
+    pub parts_none : (at < length s → id_at s at ≡ n → ⊥) → Stands n s None
+    parts_none o = find_none n (rows s) other
       where
         at_place : (i : ℕ) → i % 56 ≡ 0 → i + 56 ≤ length s → id_at s i ≡ n → (b c : Bool) → ltb i at ≡ b → ltb at i ≡ c → ⊥
         at_place i v h e true c q r = omega (arith, p.before i v (ltb-true i at q), e)

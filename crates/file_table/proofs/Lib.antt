@@ -1,5 +1,4 @@
 pub mod Rows
-pub mod Keys
 pub mod Rising
 pub mod Judging
 pub mod Places

@@ -1,16 +1,10 @@
 -- A table of a volume's files: a row of 56 bytes for each, with its name in a pool. What the rows hold, and when the table is right.
-use Rattle.std.specs.Prelude.{Bool, true, false, not, cond, ◌&&◌, ◌||◌, List, [], ◌∷◌, ℕ, zero, suc, ◌+◌, ◌-◌, ◌*◌, ◌/◌, ◌%◌, ◌^◌, ltb, eqb, length, take, drop}
-use Rattle.std.proofs.Math.Option.{Option, none, some}
+use Rattle.std.specs.Prelude.{◌≡◌, ◌≤◌, ◌+◌, Bool, true, false, not, cond, ◌&&◌, ◌||◌, List, [], ◌∷◌, ℕ, zero, suc, ◌-◌, ◌/◌, ◌%◌, ◌^◌, ltb, eqb, length, take, drop, Option, None, Some}
 use Rattle.le.specs.Numbers.{number_at}
 use Rattle.file_ids.specs.Ids.{id_number}
 use Rattle.names.specs.Names.{name_in, good_in}
-use Rattle.file_table.specs.declared.Key.{Key}
 use Rattle.file_table.specs.declared.Order.{Order}
-use Rattle.file_table.specs.declared.Order.TheVariants.{Rising, Mixed, Bad}
-
--- the number of an id that is given by its halves
-abbrev pub key_number : Key → ℕ
-key_number k = k.low + 2 ^ 64 * k.high
+use Rattle.file_table.specs.declared.Order.TheVariants.{Rising, Mixed}
 
 -- ---- the rows
 
@@ -50,8 +44,13 @@ row_name pool r = name_in pool r.place r.length
 
 -- the row that has the id of this number, if there is one
 unfoldable pub find : ℕ → List Row → Option Row
-find n [] = none
-find n (r ∷ rs) = cond (eqb (id_number r.id) n) (some r) (find n rs)
+find n [] = None
+find n (r ∷ rs) = cond (eqb (id_number r.id) n) (Some r) (find n rs)
+
+-- where it stands in the bytes of a table, or there is none
+abbrev pub Stands : ℕ → List ℕ → Option ℕ → Type 0
+Stands n s (Some at) = (find n (rows s) ≡ Some (row_in (drop at s))) × (at + 56 ≤ length s) × (at % 56 ≡ 0)
+Stands n s None = find n (rows s) ≡ None
 
 -- ---- when the table is right
 
@@ -89,6 +88,6 @@ unfoldable pub rising : List Row → Bool
 rising [] = true
 rising (r ∷ rs) = above (id_number r.id) rs && rising rs
 
--- what a table is: right and by rising id, right and in another order, or not right
-abbrev pub order_of : List ℕ → List ℕ → Order
-order_of pool s = cond (right_table pool s) (cond (rising (rows s)) Rising Mixed) Bad
+-- the order of a table that is right
+abbrev pub order_of : List ℕ → List ℕ → Option Order
+order_of pool s = cond (right_table pool s) (Some (cond (rising (rows s)) Rising Mixed)) None

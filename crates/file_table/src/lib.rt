@@ -3,13 +3,12 @@
 // other order each id is looked for in the rows behind it, and a row is found by a pass.
 #![tactic(auto)]
 
-ghost use Rattle.std.specs.Prelude.{◌≡◌, true, not, ◌+◌, ◌%◌, ◌≤◌, ltb, eqb, length, drop};
+ghost use Rattle.std.specs.Prelude.{◌≡◌, true, not, ◌+◌, ◌%◌, ◌≤◌, ltb, eqb, length, drop, option_map, IfSome};
 ghost use Rattle.le.specs.Numbers.{number_at};
-ghost use Rattle.file_ids.specs.Ids.{id_number};
-ghost use Rattle.file_table.specs.Table.{key_number, rows, good_row, good_rows, has_id, distinct, rising, order_of};
-ghost use Rattle.file_table.specs.Steps.{row_at, id_at, Parts, Stands};
+ghost use Rattle.file_table.specs.declared.Order.TheVariants.{Rising};
+ghost use Rattle.file_table.specs.Table.{rows, good_row, good_rows, has_id, distinct, right_table, rising, order_of, Stands};
+ghost use Rattle.file_table.specs.Steps.{row_at, id_at, Parts};
 
-use file_ids::{FileId, half};
 use names::good_in;
 
 // The bytes of a row, and where its parts stand in it.
@@ -25,45 +24,41 @@ pub const LENGTH: usize = 44;
 
 pub const PLACE: usize = 48;
 
-// An id by its lower and its upper half.
-#[derive(Clone, Copy)]
-pub struct Key {
-    pub low: u64,
-    pub high: u64,
-}
-
-// What a table is: right and in rising order of ids, right and in another order, or not right.
-#[derive(Clone, Copy)]
+// The order of ids in a table.
+#[derive(Clone, Copy, Debug, PartialEq, Eq)]
 pub enum Order {
     Rising,
     Mixed,
-    Bad,
+}
+
+// A table that is right, with the pool of its names.
+#[derive(Clone, Copy)]
+pub struct Table<'a> {
+    pub bytes: &'a [u8],
+    pub pool: &'a [u8],
+    pub order: Order,
+    pub ghost right: { right_table pool.now bytes.now ≡ true },
+    pub ghost rises: { order ≡ Rising → rising (rows bytes.now) ≡ true },
 }
 
 // ---- Ids.
+
+// The id in the sixteen bytes from `at` on, as one number.
+pub fn key_at(table: &[u8], at: usize) -> u128
+    requires { at + 16 ≤ length table.now }
+    ensures { result ≡ number_at table.now at 16 }
+{
+    let low = le::get(table, at, 8);
+    let high = le::get(table, at + 8, 8);
+    low as u128 + 0x1_0000_0000_0000_0000 * high as u128
+}
 
 // Whether the row at `a` has a lower id than the one at `b`.
 pub fn is_below(table: &[u8], a: usize, b: usize) -> bool
     requires { (a + 56 ≤ length table.now) × (b + 56 ≤ length table.now) }
     ensures { result ≡ ltb (id_at table.now a) (id_at table.now b) }
 {
-    let x = le::get(table, a + 8, 8);
-    let y = le::get(table, b + 8, 8);
-    if x != y {
-        return x < y;
-    }
-    le::get(table, a, 8) < le::get(table, b, 8)
-}
-
-// Whether the rows at `a` and `b` have the same id.
-fn is_same(table: &[u8], a: usize, b: usize) -> bool
-    requires { (a + 56 ≤ length table.now) × (b + 56 ≤ length table.now) }
-    ensures { result ≡ eqb (id_at table.now b) (id_at table.now a) }
-{
-    if le::get(table, a, 8) != le::get(table, b, 8) {
-        return false;
-    }
-    le::get(table, a + 8, 8) == le::get(table, b + 8, 8)
+    key_at(table, a) < key_at(table, b)
 }
 
 // Whether each id is above the one before it.
@@ -81,14 +76,27 @@ fn rises(table: &[u8]) -> bool
     true
 }
 
+// Whether the row at `at` has this id. Most ids differ in their lower halves, so these are read alone first: where each two rows are compared, that
+// is one load for a pair.
+fn is_at(table: &[u8], at: usize, id: u128) -> bool
+    requires { at + 56 ≤ length table.now }
+    ensures { result ≡ eqb (id_at table.now at) id }
+{
+    if le::get(table, at, 8) as u128 != id % 0x1_0000_0000_0000_0000 {
+        return false;
+    }
+    key_at(table, at) == id
+}
+
 // Whether the id of the row at `at` stands in a row behind it too.
 fn has_duplicate(table: &[u8], at: usize) -> bool
     requires { at + 56 ≤ length table.now }
     ensures { result ≡ has_id (id_at table.now at) (rows (drop (at + 56) table.now)) }
 {
+    let id = key_at(table, at);
     let mut next = at + ROW;
     while ROW <= table.len() - next {
-        if is_same(table, at, next) {
+        if is_at(table, next, id) {
             return true;
         }
         next += ROW;
@@ -117,10 +125,7 @@ fn is_last(table: &[u8], at: usize) -> bool
     requires { at + 56 ≤ length table.now }
     ensures { result ≡ eqb (id_at table.now at) 0xFFFF_FFFF_FFFF_FFFF }
 {
-    if le::get(table, at, 8) != 0xFFFF_FFFF_FFFF_FFFF {
-        return false;
-    }
-    le::get(table, at + 8, 8) == 0
+    key_at(table, at) == 0xFFFF_FFFF_FFFF_FFFF
 }
 
 // Whether the row at `at` has a good name, a Usn that is not negative, and an id other than 2^64-1.
@@ -153,80 +158,18 @@ fn good_rows(pool: &[u8], table: &[u8]) -> bool
     true
 }
 
-// Judges a table. Where ids rise, none stands twice.
-pub fn judge_table(pool: &[u8], table: &[u8]) -> Order
-    ensures { result ≡ order_of pool.now table.now }
-{
-    if table.len() % ROW != 0 {
-        return Order::Bad;
-    }
-    if !good_rows(pool, table) {
-        return Order::Bad;
-    }
-    if rises(table) {
-        return Order::Rising;
-    }
-    if has_duplicates(table) {
-        return Order::Bad;
-    }
-    Order::Mixed
-}
-
-// ---- Ids by their halves.
-
-// The id in the sixteen bytes from `at` on.
-pub fn key_at(table: &[u8], at: usize) -> Key
-    requires { at + 16 ≤ length table.now }
-    ensures { key_number result ≡ number_at table.now at 16 }
-{
-    Key {
-        low: le::get(table, at, 8),
-        high: le::get(table, at + 8, 8),
-    }
-}
-
-// The id of sixteen bytes.
-pub fn key_of(id: FileId) -> Key
-    ensures { key_number result ≡ id_number id }
-{
-    Key {
-        low: half(id, 0),
-        high: half(id, 8),
-    }
-}
-
-// Whether a is the lower id.
-fn is_lower(a: Key, b: Key) -> bool
-    ensures { result ≡ ltb (key_number a) (key_number b) }
-{
-    if a.high != b.high {
-        return a.high < b.high;
-    }
-    a.low < b.low
-}
-
-// Whether both are one id.
-pub fn is_equal(a: Key, b: Key) -> bool
-    ensures { result ≡ eqb (key_number a) (key_number b) }
-{
-    if a.low != b.low {
-        return false;
-    }
-    a.high == b.high
-}
-
 // ---- The row of an id.
 
 // The place of the first row of a table by rising id that has no lower id than this one, or the table's end: by halving.
-fn first_from(table: &[u8], key: Key) -> usize
+fn first_from(table: &[u8], id: u128) -> usize
     requires { (length table.now % 56 ≡ 0) × (rising (rows table.now) ≡ true) }
-    ensures { Parts (key_number key) table.now result }
+    ensures { Parts id table.now result }
 {
     let mut low = 0;
     let mut high = table.len() / ROW;
     while low < high {
         let middle = low + (high - low) / 2;
-        if is_lower(key_at(table, middle * ROW), key) {
+        if key_at(table, middle * ROW) < id {
             low = middle + 1;
         } else {
             high = middle;
@@ -235,45 +178,79 @@ fn first_from(table: &[u8], key: Key) -> usize
     low * ROW
 }
 
-// Where the row of an id stands in a table by rising id, or the table's end.
-fn find_rising(table: &[u8], key: Key) -> usize
+// Where the row of an id stands in a table by rising id.
+fn find_rising(table: &[u8], id: u128) -> Option<usize>
     requires { (length table.now % 56 ≡ 0) × (rising (rows table.now) ≡ true) }
-    ensures { Stands (key_number key) table.now result }
+    ensures { Stands id table.now result }
 {
-    let at = first_from(table, key);
+    let at = first_from(table, id);
     if at == table.len() {
-        return at;
+        return None;
     }
-    if is_equal(key_at(table, at), key) {
-        return at;
+    if key_at(table, at) != id {
+        return None;
     }
-    table.len()
+    Some(at)
 }
 
 // The same in a table in any order: by a pass.
-fn find_any(table: &[u8], key: Key) -> usize
+fn find_any(table: &[u8], id: u128) -> Option<usize>
     requires { length table.now % 56 ≡ 0 }
-    ensures { Stands (key_number key) table.now result }
+    ensures { Stands id table.now result }
 {
     let mut at = 0;
-    loop {
-        if table.len() <= at {
-            break at;
-        }
-        if is_equal(key_at(table, at), key) {
-            break at;
+    while at < table.len() {
+        if is_at(table, at, id) {
+            return Some(at);
         }
         at += ROW;
     }
+    None
 }
 
-// Where the row of an id stands in a table of whole rows, in rising order or not, or the table's end.
-pub fn find_row(table: &[u8], ordered: bool, key: Key) -> usize
-    requires { (length table.now % 56 ≡ 0) × (ordered ≡ true → rising (rows table.now) ≡ true) }
-    ensures { Stands (key_number key) table.now result }
+// Where the row of an id stands in a table of whole rows, in this order.
+pub fn find_row(table: &[u8], order: Order, id: u128) -> Option<usize>
+    requires { (length table.now % 56 ≡ 0) × (order ≡ Rising → rising (rows table.now) ≡ true) }
+    ensures { Stands id table.now result }
 {
-    if ordered {
-        return find_rising(table, key);
+    match order {
+        Order::Rising => find_rising(table, id),
+        Order::Mixed => find_any(table, id),
     }
-    find_any(table, key)
+}
+
+impl<'a> Table<'a> {
+    // The table in these bytes, if it is right. Where ids rise, none stands twice.
+    pub fn judge(bytes: &'a [u8], pool: &'a [u8]) -> Option<Table<'a>>
+        ensures { (option_map (λ t. t.order) result ≡ order_of pool.now bytes.now) × IfSome result (λ t. (t.bytes.now ≡ bytes.now) × (t.pool.now ≡ pool.now)) }
+    {
+        if bytes.len() % ROW != 0 {
+            return None;
+        }
+        if !good_rows(pool, bytes) {
+            return None;
+        }
+        if rises(bytes) {
+            return Some(Table {
+                bytes,
+                pool,
+                order: Order::Rising,
+            });
+        }
+        if has_duplicates(bytes) {
+            return None;
+        }
+        Some(Table {
+            bytes,
+            pool,
+            order: Order::Mixed,
+        })
+    }
+
+    // Where the row of an id stands.
+    pub fn find(&self, id: u128) -> Option<usize>
+        ensures { Stands id self.now.bytes.now result }
+    {
+        find_row(self.bytes, self.order, id)
+    }
 }

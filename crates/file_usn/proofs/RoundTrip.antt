@@ -1,25 +1,21 @@
 -- The record that a file read gives is read back to the file's fields, attributes 0 as 0x80.
 -- Assumes nothing.
 use mathlib.Core.Path.{◌≡◌, sym, ap, ◌∙◌}
-use mathlib.Core.Bool.{Bool, true, ◌&&◌}
-use mathlib.Core.Option.{Option, none, some}
+use Rattle.std.specs.Prelude.{Option, Some}
 use mathlib.Core.List.{List}
-use Prim.Native.Nat.{ℕ, ◌+◌, ◌^◌, ◌<◌}
-use lib.Dec.{leb, ltb, lit<}
+use Prim.Native.Nat.{ℕ, ◌^◌, ◌<◌}
+use lib.Dec.{leb, lit<}
 use lib.ListN.{length, drop}
-use borrow.Author.Tests.{ltb-true}
-use Rattle.le.proofs.Runs.{and_left, and_right}
 use Rattle.status.specs.declared.Status.{Status}
-use Rattle.status.specs.declared.Status.TheVariants.{Success, InvalidDeviceRequest, BufferTooSmall, NotSupported, FileCorruptError}
+use Rattle.status.specs.declared.Status.TheVariants.{Success, BufferTooSmall}
 use Rattle.status.specs.declared.Answer.{Answer}
-use Rattle.status.specs.Check.{unless, else}
+use Rattle.status.specs.Check.{unless}
 use Rattle.status.specs.Reply.{Reply, give, guard, after, Replied}
-use Rattle.status.proofs.Checking.{else-left, else-right, unless-true, Never, nevers}
+use Rattle.status.proofs.Checking.{Never, nevers}
 use Rattle.status.proofs.Replies.{behind-checks}
 use Rattle.file_ids.specs.Ids.{Id}
 use Rattle.volume.specs.declared.Volume.{Volume}
-use Rattle.volume.specs.State.{supported}
-use Rattle.usn_record.specs.Layout.{name_offset, record_length, shows_ids, layout}
+use Rattle.usn_record.specs.Layout.{record_length, layout}
 use Rattle.record_reader.specs.Read.{parse}
 use Rattle.record_reader.proofs.RoundTrip.{Sized, shown_record, read_back}
 use Rattle.file_record.specs.declared.FileRecord.{FileRecord}
@@ -27,7 +23,8 @@ use Rattle.file_links.specs.declared.Link.{Link}
 use Rattle.file_links.specs.Links.{name_at, good_links, chosen_link}
 use Rattle.file_links.proofs.Choosing.{chosen-good}
 use Rattle.file_links.proofs.Tables.{link-named}
-use Rattle.file_usn.specs.FileUsn.{file_versions, file_version, file_check, file_fields, file_answer, named_reply, file_reply}
+use Rattle.file_usn.proofs.Writing.{checks-passed}
+use Rattle.file_usn.specs.FileUsn.{file_version, file_check, file_fields, file_answer, named_reply, file_reply}
 
 -- the file's fields have their types
 pub record Typed (f : FileRecord) (parent : List ℕ) : Type 0 where
@@ -40,22 +37,10 @@ module _ (v : Volume) (f : FileRecord) (parent : List ℕ) (pool : List ℕ) (li
   unfolding file_check
   never = search nevers depth 11
 
-  right : file_check v f parent (good_links pool links) input room ≡ none → (f.usn < 2 ^ 63) × (good_links pool links ≡ true) × (shows_ids (file_version input) f.id parent ≡ true)
-  unfolding file_check
-  right e =
-      let sized : Bool = ltb f.usn (2 ^ 63) && good_links pool links in
-      let ids : Option Status = unless (shows_ids (file_version input) f.id parent) NotSupported in
-      let small : Option Status = unless (leb (name_offset (file_version input) + 4) room) BufferTooSmall in
-      let rest : Option Status = else (file_versions input) (else small ids) in
-      let k = else-right (unless (supported v.usn) InvalidDeviceRequest) (else (unless sized FileCorruptError) rest) e in
-      let b = unless-true sized FileCorruptError (else-left (unless sized FileCorruptError) rest k) in
-      let i = else-right small ids (else-right (file_versions input) (else small ids) (else-right (unless sized FileCorruptError) rest k)) in
-      (ltb-true _ _ (and_left (ltb f.usn (2 ^ 63)) _ b), and_right (ltb f.usn (2 ^ 63)) _ b, unless-true (shows_ids (file_version input) f.id parent) NotSupported i)
-
 -- a file read that succeeds leaves the record in the output buffer
 pub file-read-back : (v : Volume) (f : FileRecord) (parent : List ℕ) (pool : List ℕ) (links : List Link) (input old new : List ℕ) (r : Answer)
     → Typed f parent → Replied (file_reply v f parent pool links input (length old)) r old new → r.status ≡ Success
-    → parse new ≡ some (shown_record (file_version input) (file_fields f parent) (name_at pool (chosen_link links)))
+    → parse new ≡ Some (shown_record (file_version input) (file_fields f parent) (name_at pool (chosen_link links)))
 unfolding named_reply file_answer
 file-read-back v f parent pool links input old new r t p s =
     let w = file_version input in
@@ -66,7 +51,7 @@ file-read-back v f parent pool links input old new r t p s =
     let e = sym (ap (λ (x : Answer). x.status) p.answered) ∙ s in
     let a = behind-checks Success checks (guard fits given) (never v f parent pool links input (length old)) e in
     let b = behind-checks Success fits given (search nevers) a.1 in
-    let c = right v f parent pool links input (length old) a.0 in
+    let c = checks-passed v f parent (good_links pool links) input (length old) a.0 in
     let z : Sized (file_fields f parent) =
     record { file = t.id; parent = t.parent-id; usn = c.0; time = lit< tt; reason = lit< tt; source = lit< tt; security = lit< tt; attributes = t.attributes } in
     ap parse (p.output ∙ ap (λ (k : Option Status). after (guard k (guard fits given)) old) a.0 ∙ ap (λ (k : Option Status). after (guard k given) old) b.0)

@@ -1,6 +1,5 @@
 -- FSCTL_READ_FILE_USN_DATA: a record of the file as it is now.
-use Rattle.std.specs.Prelude.{Bool, ◌&&◌, List, ℕ, ◌+◌, ◌^◌, leb, ltb, length}
-use Rattle.std.proofs.Math.Option.{Option}
+use Rattle.std.specs.Prelude.{Bool, ◌&&◌, List, ℕ, ◌+◌, ◌^◌, leb, ltb, length, Option}
 use Rattle.status.specs.declared.Status.{Status}
 use Rattle.status.specs.declared.Status.TheVariants.{Success, InvalidDeviceRequest, BufferTooSmall, NotSupported, FileCorruptError}
 use Rattle.status.specs.Check.{unless, else}

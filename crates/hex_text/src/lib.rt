@@ -26,12 +26,8 @@ pub fn put_hex(out: &mut [u8], s: &[u8])
     requires { 2 * length s.now ≤ length out.old }
     ensures { out.new ≡ hex_bytes s.now ++ drop (2 * length s.now) out.old }
 {
-    let mut at = 0;
-    let mut i = 0;
-    while i < s.len() {
-        put_hex_byte(&mut out[at..], s[i]);
-        at += 2;
-        i += 1;
+    for (i, byte) in s.iter().enumerate() {
+        put_hex_byte(&mut out[2 * i..], *byte);
     }
 }
 

@@ -3,7 +3,7 @@
 use mathlib.Core.Path.{◌≡◌, refl, sym, ap, ap₂, ◌∙◌, subst₂}
 use mathlib.Core.Logic.{◌⊎◌, inl, inr}
 use mathlib.Core.Bool.{and-false, Bool, true, false, not, cond, ◌&&◌, ◌||◌}
-use mathlib.Core.Option.{Option, none, some}
+use Rattle.std.specs.Prelude.{Option, None, Some}
 use mathlib.Core.List.Memᴰ
 use mathlib.Core.List.{List, [], ◌∷◌, ◌++◌, Memᴰ, append_assoc}
 use Prim.Native.Nat.{ℕ, ◌-◌, ◌^◌, ◌≤◌, ◌<◌}
@@ -87,7 +87,7 @@ above-append a l m = filter-append _ l m
 
 -- ---- boundaries
 
-pub after-here : (f p : ℕ) (l : List Record) → f ≡ p → records_after f p l ≡ some l
+pub after-here : (f p : ℕ) (l : List Record) → f ≡ p → records_after f p l ≡ Some l
 unfolding records_after
 after-here f p [] h = rw (eq-eqb f p h)
 after-here f p (r ∷ rs) h = rw (eq-eqb f p h)
@@ -109,23 +109,23 @@ pub record Boundary (f p : ℕ) (l t : List Record) (e : ℕ) : Type 0 where
   pub upto : Chain f before p
   pub beyond : Chain p t e
 
-boundary-here : (f p : ℕ) (l t : List Record) (e : ℕ) → Chain f l e → eqb f p ≡ true → some l ≡ some t → Boundary f p l t e
+boundary-here : (f p : ℕ) (l t : List Record) (e : ℕ) → Chain f l e → eqb f p ≡ true → Some l ≡ Some t → Boundary f p l t e
 boundary-here f p l t e h q k =
     let s : l ≡ t = cc in
     let z : f ≡ p = eqb-true f p q in
     record { before = []; parts = s; upto = z; beyond = subst₂ (λ (x : ℕ) (y : List Record). Chain x y e) z s h }
 
-pub boundary : (f p : ℕ) (l t : List Record) (e : ℕ) → Chain f l e → records_after f p l ≡ some t → Boundary f p l t e
+pub boundary : (f p : ℕ) (l t : List Record) (e : ℕ) → Chain f l e → records_after f p l ≡ Some t → Boundary f p l t e
 unfolding records_after
 boundary f p [] t e h k = go (eqb f p) refl k
   where
-    go : (b : Bool) → eqb f p ≡ b → cond b (some []) none ≡ some t → Boundary f p [] t e
+    go : (b : Bool) → eqb f p ≡ b → cond b (Some []) None ≡ Some t → Boundary f p [] t e
     go true q k = boundary-here f p [] t e h q k
     go false q k = clash cc
 boundary f p (r ∷ rs) t e h k = go (eqb f p) refl k (boundary r.fields.usn p rs t e h.1)
   where
-    go : (b : Bool) → eqb f p ≡ b → cond b (some (r ∷ rs)) (records_after r.fields.usn p rs) ≡ some t
-        → (records_after r.fields.usn p rs ≡ some t → Boundary r.fields.usn p rs t e)
+    go : (b : Bool) → eqb f p ≡ b → cond b (Some (r ∷ rs)) (records_after r.fields.usn p rs) ≡ Some t
+        → (records_after r.fields.usn p rs ≡ Some t → Boundary r.fields.usn p rs t e)
         → Boundary f p (r ∷ rs) t e
     go true q k ih = boundary-here f p (r ∷ rs) t e h q k
     go false q k ih =
@@ -133,10 +133,10 @@ boundary f p (r ∷ rs) t e h k = go (eqb f p) refl k (boundary r.fields.usn p r
         record { before = r ∷ g.before; parts = ap (λ (x : List Record). r ∷ x) g.parts; upto = (h.0, g.upto); beyond = g.beyond }
 
 -- the boundary found again, behind what stood before it
-pub after-boundary : (f p : ℕ) (l t : List Record) → Chain f l p → records_after f p (l ++ t) ≡ some t
+pub after-boundary : (f p : ℕ) (l t : List Record) → Chain f l p → records_after f p (l ++ t) ≡ Some t
 after-boundary f p l t h = after-drop f l p p t h (omega arith) ∙ after-here p p t refl
 
-pub after-append : (f p : ℕ) (l t m : List Record) (e : ℕ) → Chain f l e → records_after f p l ≡ some t → records_after f p (l ++ m) ≡ some (t ++ m)
+pub after-append : (f p : ℕ) (l t m : List Record) (e : ℕ) → Chain f l e → records_after f p l ≡ Some t → records_after f p (l ++ m) ≡ Some (t ++ m)
 after-append f p l t m e h k =
     let g = boundary f p l t e h k in
     ap (λ (x : List Record). records_after f p (x ++ m)) g.parts
@@ -155,15 +155,15 @@ mem-range f (x ∷ xs) e r h m = go (Memᴰ.cases_cons m) (mem-range x.fields.us
     go (inr n) ih = (omega (arith, link-rises f x h.0, (ih n).0), (ih n).1)
 
 pub after-mem : (f : ℕ) (l : List Record) (e : ℕ) (r : Record) → Chain f l e → Memᴰ r l
-    → (t : List Record) × (records_after f r.fields.usn l ≡ some t)
+    → (t : List Record) × (records_after f r.fields.usn l ≡ Some t)
 after-mem f [] e r h m = absurd (Memᴰ.not-nil m)
 after-mem f (x ∷ xs) e r h m = go (Memᴰ.cases_cons m) (after-mem x.fields.usn xs e r h.1)
   where
     next : records_after f r.fields.usn (x ∷ xs) ≡ records_after x.fields.usn r.fields.usn xs
     next = after_next f r.fields.usn x xs (mem-range f (x ∷ xs) e r h m).0
 
-    go : (r ≡ x) ⊎ Memᴰ r xs → (Memᴰ r xs → (t : List Record) × (records_after x.fields.usn r.fields.usn xs ≡ some t))
-        → (t : List Record) × (records_after f r.fields.usn (x ∷ xs) ≡ some t)
+    go : (r ≡ x) ⊎ Memᴰ r xs → (Memᴰ r xs → (t : List Record) × (records_after x.fields.usn r.fields.usn xs ≡ Some t))
+        → (t : List Record) × (records_after f r.fields.usn (x ∷ xs) ≡ Some t)
     go (inl q) ih = (xs, next ∙ after-here x.fields.usn r.fields.usn xs (ap (λ (y : Record). y.fields.usn) (sym q)))
     go (inr n) ih = let k = ih n in (k.0, next ∙ k.1)
 
@@ -187,8 +187,8 @@ pub record Split (f : Filter) (p : ℕ) (l : List Record) (e : ℕ) (c : Page) :
   pub upto : Chain p taken c.position
   pub beyond : Chain c.position remain e
   pub given : c.given ≡ filter (selects f) taken
-  pub whole : c.stop ≡ none → c.position ≡ e
-  pub waiting : (x : Status) → c.stop ≡ some x → 1 ≤ length (filter (selects f) remain)
+  pub whole : c.stop ≡ None → c.position ≡ e
+  pub waiting : (x : Status) → c.stop ≡ Some x → 1 ≤ length (filter (selects f) remain)
 
 module _ (f : Filter) (p : ℕ) (r : Record) (rs : List Record) (e : ℕ) (h : Chain p (r ∷ rs) e) where
   -- the record r passed over or taken, before the rest of the page
@@ -210,8 +210,8 @@ module _ (f : Filter) (p : ℕ) (r : Record) (rs : List Record) (e : ℕ) (h : C
       → Split f r.fields.usn rs e passed → Split f r.fields.usn rs e taken
       → Split f p (r ∷ rs) e (page_step b k r p passed taken)
   split-turn false k passed taken q s t = split-past passed passed.given s (rw q s.given)
-  split-turn true none passed taken q s t = split-past taken (r ∷ taken.given) t (rw q (ap (λ (x : List Record). r ∷ x) t.given))
-  split-turn true (some x) passed taken q s t =
+  split-turn true None passed taken q s t = split-past taken (r ∷ taken.given) t (rw q (ap (λ (x : List Record). r ∷ x) t.given))
+  split-turn true (Some x) passed taken q s t =
       record { taken = []; remain = r ∷ rs; parts = refl; upto = refl; beyond = h; given = refl; whole = λ z. clash cc; waiting = λ y z. rw q (omega arith) }
 
 pub split : (v : Version) (f : Filter) (room p : ℕ) (l : List Record) (e : ℕ) → Chain p l e → Split f p l e (page_of v f room p l)
@@ -223,20 +223,20 @@ split v f room p (r ∷ rs) e h =
     (split v f (room - length_of (in_version v r)) r.fields.usn rs e h.1)
 
 -- a record that the version shows, with room for the longest, can be given
-no_stop : (v : Version) (room p : ℕ) (r : Record) → Link p r → 592 ≤ room → shows v r.fields ≡ true → stops v room r ≡ none
+no_stop : (v : Version) (room p : ℕ) (r : Record) → Link p r → 592 ≤ room → shows v r.fields ≡ true → stops v room r ≡ None
 unfolding stops fits
 no_stop v room p r k h w = rw (w, le-leb (length_of (in_version v r)) room (omega (arith, link-short p r k v)))
 
 -- so with that room and a version that shows all selected ones, the first of them is given
 pub first-given : (v : Version) (f : Filter) (room p : ℕ) (l : List Record) (e : ℕ) → Chain p l e → 592 ≤ room → all_shown v (filter (selects f) l) ≡ true
-    → page_check (page_of v f room p l) ≡ none
+    → page_check (page_of v f room p l) ≡ None
 unfolding page_of all_shown
 first-given v f room p [] e h k w = refl
 first-given v f room p (r ∷ rs) e h k w = go (selects f r) w (first-given v f room r.fields.usn rs e h.1 k)
   where
     go : (b : Bool) → all_shown v (keep b r (filter (selects f) rs)) ≡ true
-        → (all_shown v (filter (selects f) rs) ≡ true → page_check (page_of v f room r.fields.usn rs) ≡ none)
-        → page_check (page_step b (stops v room r) r p (page_of v f room r.fields.usn rs) (page_of v f (room - length_of (in_version v r)) r.fields.usn rs)) ≡ none
+        → (all_shown v (filter (selects f) rs) ≡ true → page_check (page_of v f room r.fields.usn rs) ≡ None)
+        → page_check (page_step b (stops v room r) r p (page_of v f room r.fields.usn rs) (page_of v f (room - length_of (in_version v r)) r.fields.usn rs)) ≡ None
     go true w next = rw (no_stop v room p r h.0 k (and_left (shows v r.fields) _ w))
     go false w next = next w
 

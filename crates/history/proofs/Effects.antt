@@ -3,7 +3,7 @@
 use mathlib.Core.Path.{◌≡◌, refl, sym, ap, ◌∙◌}
 use mathlib.Core.Logic.{◌⊎◌, inl, inr}
 use mathlib.Core.Bool.{Bool, true, false, not, and-false, cond, ◌&&◌, ◌||◌}
-use mathlib.Core.Option.{Option, none, some}
+use Rattle.std.specs.Prelude.{Option, None, Some}
 use mathlib.Core.List.{List, [], ◌∷◌, map}
 use Prim.Native.Nat.{ℕ}
 use native.Mathlib.Omega.{arith}
@@ -21,7 +21,7 @@ use Rattle.usn_record.specs.Layout.{Record}
 use Rattle.records.proofs.Runs.{AllSound}
 use Rattle.journal_post.specs.declared.Verdict.{Verdict}
 use Rattle.journal_post.specs.declared.Verdict.TheVariants.{Skip, Reject, Accept}
-use Rattle.journal_post.specs.Post.{verdict, leaves}
+use Rattle.journal_post.specs.Post.{verdict, leaves, rejection}
 use Rattle.journal_post.specs.Posts.{Journal, Posting, after_post, after_posts}
 use Rattle.image.specs.Image.{Image}
 use Rattle.image.specs.Forms.{stored}
@@ -31,7 +31,7 @@ use Rattle.image_load.specs.Load.{posting_of, restored, settled, load_check}
 use Rattle.image_load.proofs.Restoring.{load-none, load-passed, load-succeeds, created-made}
 use Rattle.reparse_point.specs.Reparse.{points_check}
 use Rattle.reparse_update.specs.declared.Update.{Update}
-use Rattle.reparse_update.specs.Update.{Point, given_check, point_posting, rejection, update_check, left_by}
+use Rattle.reparse_update.specs.Update.{Point, given_check, point_posting, update_check, left_by}
 use Rattle.history.specs.Calls.{Call, create, post, read, delete, finish, save, load, update, Called, leaving, called, Effect, opens, posts, point_posts, closes, nothing, load_effect, update_effect, effect, Widths, Typed}
 
 pub clash : {A : Type 0} → ◌≡◌ {A = ℕ} 0 1 → A
@@ -73,12 +73,12 @@ Does j nothing k = (k.journal ≡ j) ⊎ ((usable j ≡ false) × (usable k.jour
 -- ---- a call that changes only the volume record, or is refused
 
 pub either : (o : Option Status) (v w : Volume) (P : Volume → Type 0) → P v → P w → P (performed o v w).volume
-either none v w P p q = q
-either (some x) v w P p q = p
+either None v w P p q = q
+either (Some x) v w P p q = p
 
 refused : (o : Option Status) (v w : Volume) → ((performed o v w).status ≡ Success → ⊥) → (performed o v w).volume ≡ v
-refused none v w n = absurd (n refl)
-refused (some x) v w n = refl
+refused None v w n = absurd (n refl)
+refused (Some x) v w n = refl
 
 -- only an active journal can be used
 pub unusable : (v : Volume) (ring : List ℕ) → is_active v ≡ false → usable (with v ring) ≡ false
@@ -130,22 +130,22 @@ module _ (j : Journal) (s : List ℕ) (id : ℕ) where
   ends o i = leaving (performed o j.volume (restored j id i).volume) (settled o j.ring (restored j id i).ring)
 
   ends-refused : (o : Option Status) (i : Option Image) → ((ends o i).status ≡ Success → ⊥) → (ends o i).journal ≡ j
-  ends-refused none i n = absurd (n refl)
-  ends-refused (some x) i n = refl
+  ends-refused None i n = absurd (n refl)
+  ends-refused (Some x) i n = refl
 
-  loads-none : stored s ≡ none → (ends check none).journal ≡ j
-  loads-none e = let k = load-none j.volume (length j.ring) s id e in ap (λ (o : Option Status). (ends o none).journal) k.1
+  loads-none : stored s ≡ None → (ends check None).journal ≡ j
+  loads-none e = let k = load-none j.volume (length j.ring) s id e in ap (λ (o : Option Status). (ends o None).journal) k.1
 
-  loads-some : (i : Image) → stored s ≡ some i → (ends check (some i)).status ≡ Success → Opens j i.first id (map posting_of i.records) (ends check (some i)).journal
+  loads-some : (i : Image) → stored s ≡ Some i → (ends check (Some i)).status ≡ Success → Opens j i.first id (map posting_of i.records) (ends check (Some i)).journal
   loads-some i e q =
-      let c : check ≡ none = load-succeeds j.volume (length j.ring) s id (restored j id (some i)).volume q in
+      let c : check ≡ None = load-succeeds j.volume (length j.ring) s id (restored j id (Some i)).volume q in
       let p = load-passed j.volume (length j.ring) s id i e c in
       let f = fitting i.first i.records (stored-fit s i e) in
       record {
         capacity = p.capacity;
         position = f.position;
         journal =
-            ap (λ (o : Option Status). (ends o (some i)).journal) c
+            ap (λ (o : Option Status). (ends o (Some i)).journal) c
             ∙ ap (λ (k : Journal). after_posts k (map posting_of i.records)) (created-made j.volume j.ring id i f.position p);
       }
 
@@ -153,8 +153,8 @@ module _ (j : Journal) (s : List ℕ) (id : ℕ) where
   load_does = by (stored s) refl
     where
       by : (o : Option Image) → stored s ≡ o → Does j (load_effect id o) (ends check o)
-      by none e = inl (loads-none e)
-      by (some i) e = (loads-some i e, ends-refused check (some i))
+      by None e = inl (loads-none e)
+      by (Some i) e = (loads-some i e, ends-refused check (Some i))
 
 -- a set or a delete of a reparse point, by what its checks come to: a refusal leaves the journal, and so would the post that it comes from
 module _ (j : Journal) (u : Update) (p : Point) (q : Posting) (input : List ℕ) where
@@ -178,10 +178,10 @@ module _ (j : Journal) (u : Update) (p : Point) (q : Posting) (input : List ℕ)
   update-does = by (points_check j.volume) (given_check u p.file (length p.store) input) _ refl
     where
       by : (a b : Option Status) (k : Point) → points_check j.volume ≡ a → Does j (update_effect b (point_posting q)) (sets (else a (else b (rejection judgement))) k)
-      by none none k e = rejects judgement j.volume _ j.ring _ k ∙ sym (ap posted e)
-      by (some x) none k e = sym (ap posted e)
-      by none (some y) k e = inl refl
-      by (some x) (some y) k e = inl refl
+      by None None k e = rejects judgement j.volume _ j.ring _ k ∙ sym (ap posted e)
+      by (Some x) None k e = sym (ap posted e)
+      by None (Some y) k e = inl refl
+      by (Some x) (Some y) k e = inl refl
 
 pub does : (j : Journal) (c : Call) → Does j (effect c) (called j c)
 does j (create id) = (create-opens j id, create-refused j id)
@@ -213,8 +213,8 @@ record-widths (r ∷ rs) k =
     (record { file = z.file; parent = z.parent; time = z.time; reason = z.reason; source = z.source; security = z.security; attributes = z.attributes }, record-widths rs k.1)
 
 load_typed : (s : List ℕ) (id : ℕ) (o : Option Image) → Bytes s → stored s ≡ o → TypedEffect (load_effect id o)
-load_typed s id none b e = tt
-load_typed s id (some i) b e = record-widths i.records (stored-storable s i b e).sound
+load_typed s id None b e = tt
+load_typed s id (Some i) b e = record-widths i.records (stored-storable s i b e).sound
 
 pub typed-effect : (c : Call) → Typed c → TypedEffect (effect c)
 typed-effect (create id) t = tt
@@ -227,5 +227,5 @@ typed-effect (load s id) t = load_typed s id (stored s) t refl
 typed-effect (update u p q input) t = by (given_check u p.file (length p.store) input)
   where
     by : (o : Option Status) → TypedEffect (update_effect o (point_posting q))
-    by none = record { file = t.file; parent = t.parent; time = t.time; reason = omega arith; source = t.source; security = t.security; attributes = t.attributes }
-    by (some x) = tt
+    by None = record { file = t.file; parent = t.parent; time = t.time; reason = omega arith; source = t.source; security = t.security; attributes = t.attributes }
+    by (Some x) = tt

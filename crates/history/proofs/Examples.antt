@@ -5,7 +5,7 @@ use mathlib.Core.Logic.{inl, inr}
 use mathlib.Core.Bool.{true}
 use mathlib.Core.List.Memᴰ
 use mathlib.Core.List.{List, [], ◌∷◌, ◌++◌, map, Memᴰ}
-use mathlib.Core.Option.{Option, none, some}
+use Rattle.std.specs.Prelude.{Option, None, Some}
 use Prim.Native.Nat.{ℕ, zero, suc}
 use native.Mathlib.Omega.{arith}
 use lib.ListN.{replicate}
@@ -161,7 +161,7 @@ examples =
     ∷ row 0xFFFFFFFFFFFFFFF8 136 (refuse JournalEntryDeleted)
     ∷ []
 
-answered : (start room : ℕ) → argument_check 7 (asks start room).input room ≡ none → reply_to after (asks start room) ≡ read_answer 80 told.left (asks start room).input room
+answered : (start room : ℕ) → argument_check 7 (asks start room).input room ≡ None → reply_to after (asks start room) ≡ read_answer 80 told.left (asks start room).input room
 unfolding opened is_posted shed added note_post posted_name good_name good_units good_unit
 answered start room ok = reply-live after told sim told-right.0 (asks start room) ok
 
@@ -214,7 +214,7 @@ loaded-right = refl
 loaded_history : History
 loaded_history = note_posts (opened disk.volume 1024 80 8) (map posting_of one_image.records)
 
-loaded-opens : opening disk.volume 1024 (load one_bytes 8) ≡ some loaded_history
+loaded-opens : opening disk.volume 1024 (load one_bytes 8) ≡ Some loaded_history
 unfolding loaded_history
 loaded-opens = ap (λ (o : Option Image). opened_by disk.volume 1024 (load_effect 8 o)) one-stored
 

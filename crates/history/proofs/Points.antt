@@ -6,7 +6,7 @@ use mathlib.Core.Logic.{inr}
 use mathlib.Core.Bool.{true}
 use mathlib.Core.List.Memᴰ
 use mathlib.Core.List.{List, [], ◌∷◌, ◌++◌, map}
-use mathlib.Core.Option.{Option, none, some}
+use Rattle.std.specs.Prelude.{Option, None, Some}
 use Prim.Native.Nat.{ℕ}
 use native.Mathlib.Omega.{arith}
 use lib.ListN.{length, replicate}
@@ -108,8 +108,8 @@ opens-none : (j : Journal) (u : Update) (p : Point) (q : Posting) (input : List 
 opens-none j u p q input e s = by (given_check u p.file (length p.store) input) e
   where
     by : (o : Option Status) → is_opening (update_effect o (point_posting q)) ≡ true → ⊥
-    by none e = clash cc
-    by (some x) e = clash cc
+    by None e = clash cc
+    by (Some x) e = clash cc
 
 none-created : NoCreation (created 1) (calls ++ [])
 none-created = (opens-none (created 1) Set bare posting link, (opens-none _ Delete linked posting header, tt))

@@ -3,7 +3,7 @@
 use mathlib.Core.Path.{◌≡◌, refl, sym, ap, ap₂, ◌∙◌, subst}
 use mathlib.Core.Logic.{◌⊎◌, inl, inr, ◌↔◌}
 use mathlib.Core.Bool.{Bool, true, false, not, cond, ◌&&◌, ◌||◌}
-use mathlib.Core.Option.{Option, none, some}
+use Rattle.std.specs.Prelude.{Option, None, Some}
 use mathlib.Core.List.{List, [], ◌∷◌, ◌++◌, map, append_assoc, append-nil}
 use Prim.Native.Nat.{ℕ, ◌+◌, ◌-◌, ◌^◌, ◌≤◌, ◌<◌}
 use native.Mathlib.Omega.{arith}
@@ -68,7 +68,7 @@ pub record Stand (h : History) (d : Reader) : Type 0 where
   pub rises : d.start ≤ d.position
   pub positive : 0 < d.start
   pub rest : List Record
-  pub boundary : records_after h.base d.position (posted h) ≡ some rest
+  pub boundary : records_after h.base d.position (posted h) ≡ Some rest
 
 pub stand-boundary : (j : Journal) (h : History) (d : Reader) → Sim j h → (t : Stand h d) → Boundary h.base d.position (posted h) t.rest h.end
 stand-boundary j h d m t = boundary h.base d.position (posted h) t.rest h.end (whole j h m) t.boundary
@@ -96,15 +96,15 @@ stand-grow j h k d m g t =
 
 -- ---- the checks of a read
 
-guard-inv : (o : Option Status) (k : Reply) (x : Status) (bytes : List ℕ) → guard o k ≡ give x bytes → (o ≡ none) × (k ≡ give x bytes)
-guard-inv none k x bytes h = (refl, h)
-guard-inv (some y) k x bytes h = clash cc
+guard-inv : (o : Option Status) (k : Reply) (x : Status) (bytes : List ℕ) → guard o k ≡ give x bytes → (o ≡ None) × (k ≡ give x bytes)
+guard-inv None k x bytes h = (refl, h)
+guard-inv (Some y) k x bytes h = clash cc
 
-none_is : (o : Option Status) → passes o ≡ true → o ≡ none
-none_is none h = refl
-none_is (some x) h = clash cc
+none_is : (o : Option Status) → passes o ≡ true → o ≡ None
+none_is None h = refl
+none_is (Some x) h = clash cc
 
-pub formed : (h : History) (a : Read) → well_formed h a ≡ true → (h.live ≡ true) × (argument_check h.id a.input a.room ≡ none)
+pub formed : (h : History) (a : Read) → well_formed h a ≡ true → (h.live ≡ true) × (argument_check h.id a.input a.room ≡ None)
 unfolding well_formed
 formed h a w = (and_left h.live _ w, none_is (argument_check h.id a.input a.room) (and_right h.live _ w))
 
@@ -114,15 +114,15 @@ sound-buffer v ring h =
     and_left (eqb (length ring) v.capacity) _
     (and_right (good_capacity v.capacity) _ (and_left (good_marks v (length ring)) (in_chain v.first (records 0 (kept_bytes v ring))) h))
 
-check-none : (v : Volume) (input : List ℕ) (room : ℕ) → supported v.journal ≡ true → is_active v ≡ true → argument_check v.id input room ≡ none
-    → read_check v input room ≡ none
+check-none : (v : Volume) (input : List ℕ) (room : ℕ) → supported v.journal ≡ true → is_active v ≡ true → argument_check v.id input room ≡ None
+    → read_check v input room ≡ None
 check-none v input room s a c =
     ap₂ (λ (b : Bool) (o : Option Status). else (unless b InvalidDeviceRequest) (else o (argument_check v.id input room))) s (active-none v a) ∙ c
 
 -- what a reply tells: the checks passed
 module _ (v : Volume) (ring input : List ℕ) (room : ℕ) (x : Status) (bytes : List ℕ) where
   passed : read_reply v ring input room ≡ give x bytes
-      → (supported v.journal && (is_active v && eqb (length ring) v.capacity) ≡ true) × (argument_check v.id input room ≡ none)
+      → (supported v.journal && (is_active v && eqb (length ring) v.capacity) ≡ true) × (argument_check v.id input room ≡ None)
   unfolding read_reply
   passed k =
       let k₁ = guard-inv (read_check v input room) (guard (unless (sound v ring) FileCorruptError) (read_answer v.first (kept v ring) input room)) x bytes k in
@@ -138,16 +138,16 @@ module _ (v : Volume) (ring input : List ℕ) (room : ℕ) (x : Status) (bytes :
 
 -- a reply comes only from a live journal, to a read whose arguments pass
 replied-live : (j : Journal) (h : History) (a : Read) (x : Status) (bytes : List ℕ) → Sim j h → reply_to j a ≡ give x bytes
-    → (h.live ≡ true) × (argument_check h.id a.input a.room ≡ none)
+    → (h.live ≡ true) × (argument_check h.id a.input a.room ≡ None)
 replied-live j h a x bytes m k = by h.live refl (passed j.volume j.ring a.input a.room x bytes k)
   where
-    by : (b : Bool) → h.live ≡ b → (usable j ≡ true) × (argument_check j.volume.id a.input a.room ≡ none)
-        → (h.live ≡ true) × (argument_check h.id a.input a.room ≡ none)
+    by : (b : Bool) → h.live ≡ b → (usable j ≡ true) × (argument_check j.volume.id a.input a.room ≡ None)
+        → (h.live ≡ true) × (argument_check h.id a.input a.room ≡ None)
     by true e c = (e, ap (λ (i : ℕ). argument_check i a.input a.room) (sym (m.live e).id) ∙ c.1)
     by false e c = let u : true ≡ false = sym c.0 ∙ m.dead e in clash cc
 
 -- a read whose arguments pass, while the journal is live, is answered from the records left
-pub reply-live : (j : Journal) (h : History) → Sim j h → h.live ≡ true → (a : Read) → argument_check h.id a.input a.room ≡ none
+pub reply-live : (j : Journal) (h : History) → Sim j h → h.live ≡ true → (a : Read) → argument_check h.id a.input a.room ≡ None
     → reply_to j a ≡ read_answer h.first h.left a.input a.room
 unfolding read_reply
 reply-live j h m v a ok =
@@ -162,7 +162,7 @@ reply-live j h m v a ok =
 
 -- a read of the reader's own, with arguments that pass, while the journal is live
 module _ (j : Journal) (h : History) (m : Sim j h) (d : Reader) (t : Stand h d) (a : Read) (c : Carries d a) (v : h.live ≡ true)
-    (ok : argument_check h.id a.input a.room ≡ none) where
+    (ok : argument_check h.id a.input a.room ≡ None) where
   abbrev p : ℕ
   p = d.position
 
@@ -217,16 +217,16 @@ page-told v page n h = go (empty page.given) page.stop n (ap number h)
     bytes : List ℕ
     bytes = le 8 page.position ++ page_bytes v page
 
-    go : (b : Bool) (k : Option Status) → Never JournalEntryDeleted k → number (answer (guard (cond b k none) (give Success bytes))).status ≡ 0xC00002CF → ⊥
-    go true none n e = omega arith
-    go true (some x) n e = eqb-false (number x) 0xC00002CF n.other e
+    go : (b : Bool) (k : Option Status) → Never JournalEntryDeleted k → number (answer (guard (cond b k None) (give Success bytes))).status ≡ 0xC00002CF → ⊥
+    go true None n e = omega arith
+    go true (Some x) n e = eqb-false (number x) 0xC00002CF n.other e
     go false k n e = omega arith
 
 pub deleted-iff : (j : Journal) (h : History) (d : Reader) → Sim j h → Stand h d → (a : Read) → Carries d a → well_formed h a ≡ true
     → (status_of j (read a) ≡ JournalEntryDeleted) ↔ DroppedAbove h d.position
 deleted-iff j h d m t a c w = (there, back)
   where
-    g : (h.live ≡ true) × (argument_check h.id a.input a.room ≡ none)
+    g : (h.live ≡ true) × (argument_check h.id a.input a.room ≡ None)
     g = formed h a w
 
     there : status_of j (read a) ≡ JournalEntryDeleted → DroppedAbove h d.position
@@ -248,18 +248,18 @@ deleted-iff j h d m t a c w = (there, back)
 record Full (w : Version) (c : Page) (x : Status) (bytes : List ℕ) : Type 0 where
   success : x ≡ Success
   laid : bytes ≡ le 8 c.position ++ joined (map (in_version w) c.given)
-  full : page_check c ≡ none
+  full : page_check c ≡ None
 
 reply-inv : (w : Version) (c : Page) (x : Status) (bytes : List ℕ) → page_reply w c ≡ give x bytes → Full w c x bytes
 unfolding page_reply
 reply-inv w c x bytes h = go (page_check c) refl h
   where
     go : (k : Option Status) → page_check c ≡ k → guard k (give Success (le 8 c.position ++ page_bytes w c)) ≡ give x bytes → Full w c x bytes
-    go (some y) e h = clash cc
-    go none e h = record { success = cc; laid = cc; full = e }
+    go (Some y) e h = clash cc
+    go None e h = record { success = cc; laid = cc; full = e }
 
 -- a page that stopped and was not refused gives a record
-not-empty : (b : Bool) (x : Status) → cond b (some x) none ≡ none → b ≡ false
+not-empty : (b : Bool) (x : Status) → cond b (Some x) None ≡ None → b ≡ false
 not-empty true x e = clash cc
 not-empty false x e = refl
 
@@ -360,7 +360,7 @@ module _ (j : Journal) (h : History) (m : Sim j h) (d : Reader) (t : Stand h d) 
         (hold-append d.handed (record { version = w; bytes = bytes } ∷ []) (sel (β d.position (posted h))) (sel sp.taken) t.handed
         (sel sp.taken, [], sym (append-nil (sel sp.taken)), shown, behind, refl))
 
-    step-boundary : records_after h.base q (posted h) ≡ some sp.remain
+    step-boundary : records_after h.base q (posted h) ≡ Some sp.remain
     step-boundary =
         ap (records_after h.base q) (e.parts ∙ ap (λ (y : List Record). e.before ++ y) sp.parts ∙ sym (append_assoc e.before sp.taken sp.remain))
         ∙ after-boundary h.base q (e.before ++ sp.taken) sp.remain (chain-append h.base e.before d.position sp.taken q e.upto upto)
@@ -373,9 +373,9 @@ module _ (j : Journal) (h : History) (m : Sim j h) (d : Reader) (t : Stand h d) 
         ∙ ap (λ (y : List Record). length y + length (sel sp.remain)) (sym sp.given)
 
     ending : (k : Option Status) → c.stop ≡ k → (q ≡ h.end) ⊎ ((1 ≤ length c.given) × (1 ≤ length (sel sp.remain)))
-    ending none u = inl (sym at ∙ sp.whole u)
-    ending (some x) u =
-        inr (some-given c.given (not-empty (empty c.given) x (ap (λ (k : Option Status). cond (empty c.given) k none) (sym u) ∙ r.full)), sp.waiting x u)
+    ending None u = inl (sym at ∙ sp.whole u)
+    ending (Some x) u =
+        inr (some-given c.given (not-empty (empty c.given) x (ap (λ (k : Option Status). cond (empty c.given) k None) (sym u) ∙ r.full)), sp.waiting x u)
 
     advance : Advance h d t a bytes
     advance =
@@ -393,7 +393,7 @@ pub own-reply : (j : Journal) (h : History) → Sim j h → (d : Reader) (t : St
     → (x ≡ Success) × Advance h d t a bytes
 own-reply j h m d t a c x bytes k = by (ltb d.position h.first) refl
   where
-    lv : (h.live ≡ true) × (argument_check h.id a.input a.room ≡ none)
+    lv : (h.live ≡ true) × (argument_check h.id a.input a.room ≡ None)
     lv = replied-live j h a x bytes m k
 
     by : (b : Bool) → ltb d.position h.first ≡ b → (x ≡ Success) × Advance h d t a bytes

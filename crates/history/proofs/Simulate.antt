@@ -3,7 +3,7 @@
 use mathlib.Core.Path.{◌≡◌, refl, sym, ap, ap₂, ◌∙◌, subst, subst₂}
 use mathlib.Core.Logic.{inl, inr}
 use mathlib.Core.Bool.{Bool, true, false, not, cond, ◌&&◌, ◌||◌}
-use mathlib.Core.Option.{Option, none, some}
+use Rattle.std.specs.Prelude.{Option, None, Some}
 use mathlib.Core.List.{List, [], ◌∷◌, ◌++◌, append_assoc, append-nil, nil≢cons}
 use Prim.Native.Nat.{ℕ, zero, suc, ◌+◌, ◌-◌, ◌%◌, ◌^◌, ◌≤◌, ◌<◌}
 use native.Mathlib.Omega.{arith}
@@ -282,7 +282,7 @@ leaves-both Skip v w r s = refl
 leaves-both (Reject x) v w r s = refl
 leaves-both Accept v w r s = refl
 
-pub active-none : (v : Volume) → is_active v ≡ true → active_check v ≡ none
+pub active-none : (v : Volume) → is_active v ≡ true → active_check v ≡ None
 active-none v e = ap (λ (x : ℕ). else (unless (not (eqb x 2)) JournalDeleteInProgress) (unless (eqb x 1) JournalNotActive)) (eqb-true v.state 1 e)
 
 cond_same : {A : Type 0} (b : Bool) {x y : A} → x ≡ y → cond b x y ≡ y
@@ -431,7 +431,7 @@ posts-sim [] j h m w = m
 posts-sim (p ∷ ps) j h m w = posts-sim ps (after_post j p) (note_post h p) (post-step j h m p w.0).0 w.1
 
 effect-opens : (j : Journal) (e : Effect) (k : Called) (h : History) → Does j e k → TypedEffect e → k.status ≡ Success
-    → opened_by j.volume (length j.ring) e ≡ some h → Sim k.journal h
+    → opened_by j.volume (length j.ring) e ≡ Some h → Sim k.journal h
 effect-opens j (opens at id ps) k h d t s o =
     let g = d.0 s in
     let p : ℕ = at j.volume in
@@ -443,7 +443,7 @@ effect-opens j (closes id) k h d t s o = clash cc
 effect-opens j nothing k h d t s o = clash cc
 
 -- what a call opens goes together with its history
-pub opening-sim : (j : Journal) (c : Call) (h : History) → Typed c → status_of j c ≡ Success → opening j.volume (length j.ring) c ≡ some h → Sim (next j c) h
+pub opening-sim : (j : Journal) (c : Call) (h : History) → Typed c → status_of j c ≡ Success → opening j.volume (length j.ring) c ≡ Some h → Sim (next j c) h
 opening-sim j c h t s o = effect-opens j (effect c) (called j c) h (does j c) (typed-effect c t) s o
 
 -- ---- lists of calls

@@ -3,7 +3,7 @@
 use mathlib.Core.Path.{◌≡◌, refl, sym, ap, ap₂, ◌∙◌, subst}
 use mathlib.Core.Logic.{◌⊎◌, inl, inr}
 use mathlib.Core.Bool.{Bool, true, false, ◌&&◌}
-use mathlib.Core.Option.{Option, none, some}
+use Rattle.std.specs.Prelude.{Option, None, Some}
 use mathlib.Core.List.{List, [], ◌∷◌, ◌++◌, map, append_assoc, append-nil, append_cancel_left}
 use Prim.Native.Nat.{ℕ, ◌+◌, ◌-◌, ◌≤◌}
 use native.Mathlib.Omega.{arith}
@@ -56,7 +56,7 @@ awaited-rest j h d m t = ap (filter (selects d.filter)) same
 need-rest : (j : Journal) (h : History) (d : Reader) → Sim j h → (t : Stand h d) → need h d ≡ length (filter (selects d.filter) t.rest)
 need-rest j h d m t = ap length (awaited-rest j h d m t)
 
-reply-full : (v : Version) (c : Page) → page_check c ≡ none → page_reply v c ≡ give Success (le 8 c.position ++ page_bytes v c)
+reply-full : (v : Version) (c : Page) → page_check c ≡ None → page_reply v c ≡ give Success (le 8 c.position ++ page_bytes v c)
 unfolding page_reply
 reply-full v c h = ap (λ (k : Option Status). guard k (give Success (le 8 c.position ++ page_bytes v c))) h
 
@@ -178,7 +178,7 @@ stand-fresh j h m start f pos at =
       boundary = g.1;
     }
   where
-    place : Startable h start → (t : List Record) × (records_after h.base start (posted h) ≡ some t)
+    place : Startable h start → (t : List Record) × (records_after h.base start (posted h) ≡ Some t)
     place (inl e) = (posted h, after-here h.base start (posted h) (sym e))
     place (inr r) =
         let g = after-mem h.base (posted h) h.end r.0 (whole j h m) r.1 in
@@ -206,7 +206,7 @@ promise j h d m t =
       rising = rising h.base (posted h) h.end (whole j h m);
       refusal = λ a n. refusal a d (reply_to j a) n;
       deleted = λ a c w. deleted-iff j h d m t a c w;
-      progress = λ none ts y n c quiet enough. progress ts j h d m t (not-dropped j h d m t none) y n c quiet (inr (omega arith, omega arith));
+      progress = λ None ts y n c quiet enough. progress ts j h d m t (not-dropped j h d m t None) y n c quiet (inr (omega arith, omega arith));
     }
 
 -- ---- the whole list

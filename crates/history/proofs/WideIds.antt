@@ -5,7 +5,7 @@ use mathlib.Core.Logic.{inr}
 use mathlib.Core.Bool.{true}
 use mathlib.Core.List.Memᴰ
 use mathlib.Core.List.{List, [], ◌∷◌, ◌++◌, map}
-use mathlib.Core.Option.{none}
+use Rattle.std.specs.Prelude.{None}
 use Prim.Native.Nat.{ℕ, ◌+◌}
 use native.Mathlib.Omega.{arith}
 use Rattle.le.specs.Numbers.{le, unle, number_at, encode}
@@ -128,7 +128,7 @@ reads = asks 80 600 ∷ asks 160 600 ∷ asks 160 8 ∷ asks_three 160 600 ∷ a
 abbrev pub replies : List Reply
 replies = give Success two ∷ refuse NotSupported ∷ refuse NotSupported ∷ give Success three ∷ give Success end ∷ give Success end ∷ []
 
-answered : (a : Read) → argument_check 7 a.input a.room ≡ none → reply_to journal a ≡ read_answer 0 told.left a.input a.room
+answered : (a : Read) → argument_check 7 a.input a.room ≡ None → reply_to journal a ≡ read_answer 0 told.left a.input a.room
 unfolding opened is_posted shed added note_post posted_name good_name good_units good_unit
 answered a ok = reply-live journal told sim live-told a ok
 

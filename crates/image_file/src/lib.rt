@@ -1,10 +1,8 @@
 // A stored image as a file. No contract can speak of what the system reads or writes; each function says on standard error what failed.
 #![tactic(auto)]
 
-ghost use Rattle.std.specs.Prelude.{◌≡◌, ◌-◌, ◌≤◌, length, take};
-ghost use Rattle.list_input.specs.Input.{Within};
+ghost use Rattle.std.specs.Prelude.{IfSome, ◌≡◌, ◌-◌, ◌≤◌, length, take};
 
-use list_input::Input;
 use program_io::{fail, open, path};
 use std::fs::{File, OpenFile};
 use std::io::{Error, ErrorKind, Write};
@@ -182,24 +180,24 @@ pub fn store(rt: &(impl Files + RandomSource + Eprint), image: &[u8], name: &[u8
     store_fresh(rt, image, name, &mut fresh[..n + 7])
 }
 
-// Reads the file into `image`, until it ends or `image` is full.
-pub fn fetch(rt: &(impl Files + Eprint), name: &[u8], image: &mut [u8]) -> Input
-    ensures { Within (length image.old) result }
+// Reads the file into `image`, until it ends or `image` is full, and says how many bytes came; none where that failed.
+pub fn fetch(rt: &(impl Files + Eprint), name: &[u8], image: &mut [u8]) -> Option<usize>
+    ensures { IfSome result (λ n. n ≤ length image.old) }
 {
     let mut file = match open(rt, name) {
         Ok(file) => file,
         Err(error) => {
             fail(rt, name, error);
-            return Input::Failed;
+            return None;
         }
     };
     let read = list_input::read_all(&mut file, image);
     close(file);
     match read {
-        Ok(n) => Input::Bytes(n),
+        Ok(n) => Some(n),
         Err(error) => {
             fail(rt, name, error);
-            Input::Failed
+            None
         }
     }
 }

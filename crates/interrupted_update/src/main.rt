@@ -3,18 +3,18 @@
 
 use case_rows::print;
 use update_steps::{CHANGES, ID, START, created, post_changes, read_on, read_once};
-use volume::Volume;
 
 // The update with the reader cut off after its first reply. Before it returns, the server posts changes up to number `to`.
 fn follow(rt: &impl Print, ring: &mut [u8], to: usize) {
     print(rt, b"-- the update begins\n");
-    let v: Volume = post_changes(rt, created(ring.len()), ring, 0, 4);
+    let mut v = created(ring.len());
+    post_changes(rt, &mut v, ring, 0, 4);
     print(rt, b"-- the service reads, and is cut off\n");
     let at = read_once(rt, v, ring, ID, START);
     print(rt, b"-- the server goes on\n");
-    let w = post_changes(rt, v, ring, 4, to);
+    post_changes(rt, &mut v, ring, 4, to);
     print(rt, b"-- the service returns with its last position\n");
-    read_on(rt, w, ring, ID, at);
+    read_on(rt, v, ring, ID, at);
 }
 
 fn main(rt: HostRuntime) {

@@ -9,33 +9,28 @@ use case_rows::{ROW, digest, number, print, print_number, print_status, size, wo
 use file_ids::id_of;
 use journal_post::Change;
 use program_io::argument_count;
-use status::Answer;
+use status::{Answer, Status};
 use std::env::Env;
 use std::rt::Files;
-use volume::{Outcome, Volume};
+use volume::Volume;
 
-// Prints a call's status and the volume record that it leaves, and hands the record on.
-fn told(rt: &impl Print, label: &[u8], outcome: Outcome) -> Volume {
-    let v = outcome.volume;
-    let s = outcome.status;
+// Prints the status of a call that gave r, and the volume record that it leaves.
+fn tell(rt: &impl Print, label: &[u8], r: Result<(), Status>, v: &Volume) {
     print(rt, label);
-    print_status(rt, s);
+    print_status(rt, r.err().unwrap_or(Status::Success));
     print_number(rt, v.state as u64);
     print_number(rt, v.id);
     print_number(rt, v.first);
     print_number(rt, v.last);
     print(rt, b"\n");
-    v
 }
 
 // Fills a name with the letters from the one numbered `first` on, `a` after `z`.
 fn letters(name: &mut [u8], first: usize)
     requires { first ≤ 25 }
 {
-    let mut i = 0;
-    while i < name.len() {
-        name[i] = (97 + (first + i % 26) % 26) as u8;
-        i += 1;
+    for (i, letter) in name.iter_mut().enumerate() {
+        *letter = (97 + (first + i % 26) % 26) as u8;
     }
 }
 
@@ -59,16 +54,16 @@ fn print_file(rt: &impl Print, usn: u64, ring: &[u8]) {
 }
 
 // Posts a change: reason, attributes, the name's length and its first letter.
-fn post(rt: &impl Print, v: Volume, ring: &mut [u8], row: &[u8]) -> Volume {
+fn post(rt: &impl Print, v: &mut Volume, ring: &mut [u8], row: &[u8]) {
     let mut name = [0u8; 520];
     let first = (number(row, 4) % 26) as usize;
     letters(&mut name, first);
     let n = size(row, 3, 520);
     let mut usn = 5;
     let c = change(row);
-    let outcome = journal_post::post(v, ring, c, &name[..n], &mut usn);
+    let posted = journal_post::post(v, ring, c, &name[..n], &mut usn);
     print_file(rt, usn, ring);
-    told(rt, b" post", outcome)
+    tell(rt, b" post", posted, v);
 }
 
 // Lays out a read's input: start, mask, only-on-close, id, min, max.
@@ -91,11 +86,9 @@ fn put_tail(input: &mut [u8], row: &[u8])
 fn print_read(rt: &impl Print, answer: Answer, output: &[u8])
     requires { 8 ≤ length output.now }
 {
-    let s = answer.status;
-    let count = answer.count;
     print(rt, b"read");
-    print_status(rt, s);
-    print_number(rt, count as u64);
+    print_status(rt, answer.status);
+    print_number(rt, answer.count as u64);
     print_number(rt, le::get(output, 0, 8));
     print_number(rt, digest(output));
     print(rt, b"\n");
@@ -119,17 +112,36 @@ fn read(rt: &impl Print, v: Volume, ring: &[u8], row: &[u8]) {
     read_into(rt, v, ring, row, &mut output);
 }
 
-// Sets what the server or an accident may change in the volume record.
-fn set(v: Volume, field: u64, value: u64) -> Volume {
-    let mut w = v;
-    match field {
-        0 => w.journal = (value % 0x1_0000_0000) as u32,
-        1 => w.state = (value % 0x1_0000_0000) as u32,
-        2 => w.first = value,
-        3 => w.last = value,
-        _ => w.capacity = value,
+// What the server or an accident may change in the volume record.
+#[derive(Clone, Copy, Debug, PartialEq, Eq)]
+enum Field {
+    Journal,
+    State,
+    First,
+    Last,
+    Capacity,
+}
+
+impl From<u64> for Field {
+    fn from(n: u64) -> Field {
+        match n {
+            0 => Field::Journal,
+            1 => Field::State,
+            2 => Field::First,
+            3 => Field::Last,
+            _ => Field::Capacity,
+        }
     }
-    w
+}
+
+fn set(v: &mut Volume, field: Field, value: u64) {
+    match field {
+        Field::Journal => v.journal = (value % 0x1_0000_0000) as u32,
+        Field::State => v.state = (value % 0x1_0000_0000) as u32,
+        Field::First => v.first = value,
+        Field::Last => v.last = value,
+        Field::Capacity => v.capacity = value,
+    }
 }
 
 // Turns over the bits of one byte.
@@ -139,23 +151,56 @@ fn flip(ring: &mut [u8], at: usize) {
     }
 }
 
-// One row: create, delete, finish, post, read, set or flip.
-fn call(rt: &impl Print, v: Volume, ring: &mut [u8], row: &[u8]) -> Volume {
-    let kind = number(row, 0);
-    match kind {
-        0 => told(rt, b"create", volume::create(v, number(row, 1))),
-        1 => told(rt, b"delete", volume::delete(v, number(row, 1))),
-        2 => told(rt, b"finish", volume::finish(v)),
-        3 => post(rt, v, ring, row),
-        4 => {
-            read(rt, v, ring, row);
-            v
+fn create(rt: &impl Print, v: &mut Volume, id: u64) {
+    let created = v.create(id);
+    tell(rt, b"create", created, v);
+}
+
+fn delete(rt: &impl Print, v: &mut Volume, id: u64) {
+    let deleted = v.delete(id);
+    tell(rt, b"delete", deleted, v);
+}
+
+fn finish(rt: &impl Print, v: &mut Volume) {
+    let finished = v.finish();
+    tell(rt, b"finish", finished, v);
+}
+
+// What a row calls for.
+#[derive(Clone, Copy, Debug, PartialEq, Eq)]
+enum Kind {
+    Create,
+    Delete,
+    Finish,
+    Post,
+    Read,
+    Set,
+    Flip,
+}
+
+impl From<u64> for Kind {
+    fn from(n: u64) -> Kind {
+        match n {
+            0 => Kind::Create,
+            1 => Kind::Delete,
+            2 => Kind::Finish,
+            3 => Kind::Post,
+            4 => Kind::Read,
+            5 => Kind::Set,
+            _ => Kind::Flip,
         }
-        5 => set(v, number(row, 1), number(row, 2)),
-        _ => {
-            flip(ring, size(row, 1, 65536));
-            v
-        }
+    }
+}
+
+fn call(rt: &impl Print, v: &mut Volume, ring: &mut [u8], row: &[u8]) {
+    match Kind::from(number(row, 0)) {
+        Kind::Create => create(rt, v, number(row, 1)),
+        Kind::Delete => delete(rt, v, number(row, 1)),
+        Kind::Finish => finish(rt, v),
+        Kind::Post => post(rt, v, ring, row),
+        Kind::Read => read(rt, *v, ring, row),
+        Kind::Set => set(v, Field::from(number(row, 1)), number(row, 2)),
+        Kind::Flip => flip(ring, size(row, 1, 65536)),
     }
 }
 
@@ -173,14 +218,8 @@ fn run(rt: &impl Print, rows: &[u8], ring: &mut [u8], last: u64) {
         last,
         capacity: ring.len() as u64,
     };
-    let mut at = 0;
-    while at < rows.len() {
-        if rows.len() - at < ROW {
-            return;
-        }
-        let end = at + ROW;
-        v = call(rt, v, ring, &rows[at..end]);
-        at = end;
+    for row in rows.chunks_exact(ROW) {
+        call(rt, &mut v, ring, row);
     }
 }
 

@@ -12,13 +12,10 @@ use file_links::{Link, good_link, has_name, no_link};
 pub fn good_links(pool: &[u8], links: &[Link]) -> bool
     ensures { result ≡ good_links pool.now links.now }
 {
-    let mut i = 0;
-    while i < links.len() {
-        let link = links[i];
-        if !good_link(pool, link) {
+    for link in links {
+        if !good_link(pool, *link) {
             return false;
         }
-        i += 1;
     }
     true
 }

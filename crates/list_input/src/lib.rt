@@ -3,21 +3,14 @@
 
 ghost use Rattle.std.specs.Prelude.{List, ℕ, ◌+◌, ◌*◌, ◌≤◌, ◌<◌, length, IfOk};
 ghost use Rattle.status.specs.declared.Status.TheVariants.{Success};
-ghost use Rattle.status.specs.Reply.{give, Replied};
+ghost use Rattle.status.specs.Reply.{give, Replied, told};
 ghost use Rattle.usn_listing.specs.Listing.{listing};
 ghost use Rattle.list_input.specs.Input.{ReadInto};
 
 use program_io::fail;
-use status::Answer;
+use status::Status;
 use std::io;
 use std::io::Read;
-
-// What reading an input found: how many bytes came, at most the buffer's length, or that a read failed.
-#[derive(Clone, Copy)]
-pub enum Input {
-    Bytes(usize),
-    Failed,
-}
 
 // Reads until the input ends or `buf` is full, in as many reads as that takes, and says how many bytes came. Which bytes come no contract
 // can say, so it says only that they lie in the buffer. The only error is that of a read: then bytes may have come before it, as many as
@@ -38,9 +31,9 @@ pub fn read_all(source: &mut impl Read, buf: &mut [u8]) -> io::Result<usize>
 
 // Lists the input whose first n bytes stand in `buf`: all of it, or as much as `buf` takes. The buffer has more bytes than a reply
 // may have, so an input that fills it is too long, whatever follows.
-fn list_read(text: &mut [u8], buf: &[u8], n: usize) -> Answer
+fn list_read(text: &mut [u8], buf: &[u8], n: usize) -> Result<usize, Status>
     requires { (n ≤ length buf.now) × (65536 < length buf.now) × (64 + 2 * length buf.now ≤ length text.old) }
-    ensures { (input : List ℕ) → ReadInto buf.now n input → Replied (give Success (listing input)) result text.old text.new }
+    ensures { (input : List ℕ) → ReadInto buf.now n input → Replied (give Success (listing input)) (told result) text.old text.new }
 {
     usn_listing::list_reply(text, &buf[..n])
 }
@@ -59,8 +52,8 @@ pub fn list(rt: &(impl Print + Eprint), source: &mut impl Read)
         }
     };
     let mut text = [0u8; 131138];
-    let answer = list_read(&mut text, &input, n);
-    let count = answer.count;
+    // there is room for every listing
+    let count = list_read(&mut text, &input, n).unwrap_or(0);
     if let Err(error) = rt.write_all(&text[..count]) {
         fail(rt, b"write", error);
     }

@@ -36,12 +36,10 @@ fn good_unit(u: u64) -> bool
 fn each_good(s: &[u8]) -> bool
     ensures { result ≡ good_units s.now }
 {
-    let mut i = 0;
-    while 2 <= s.len() - i {
-        if !good_unit(le::get(s, i, 2)) {
+    for unit in s.chunks_exact(2) {
+        if !good_unit(le::get(unit, 0, 2)) {
             return false;
         }
-        i += 2;
     }
     true
 }
@@ -60,15 +58,15 @@ fn good_units(s: &[u8]) -> bool
     ensures { result ≡ good_units s.now }
 {
     let mut seen = TOPS;
-    let mut i = 0;
-    while 8 <= s.len() - i {
-        let w = le::get(s, i, 8);
+    let words = s.chunks_exact(8);
+    let rest = words.remainder();
+    for word in words {
+        let w = le::get(word, 0, 8);
         // a code unit with bit 15 is good, whatever it is else
-        seen = seen & ((nonzero(w) & nonzero(w ^ SLASHES) & nonzero(w ^ BACKSLASHES)) | w);
-        i += 8;
+        seen &= (nonzero(w) & nonzero(w ^ SLASHES) & nonzero(w ^ BACKSLASHES)) | w;
     }
     if seen & TOPS == TOPS {
-        return each_good(&s[i..]);
+        return each_good(rest);
     }
     each_good(s)
 }

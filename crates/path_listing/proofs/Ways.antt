@@ -3,15 +3,13 @@
 use mathlib.Core.Path.{◌≡◌, refl, sym, ap, ◌∙◌}
 use mathlib.Core.Bool.{Bool, true, false, not, cond}
 use mathlib.Core.List.{List, [], ◌∷◌, ◌++◌, append_assoc}
-use mathlib.Core.Option.{Option, none, some}
-use Prim.Native.Nat.{ℕ, zero, suc, ◌+◌, ◌-◌, ◌*◌, ◌/◌, ◌%◌, ◌^◌, ◌≤◌, ◌<◌}
+use Rattle.std.specs.Prelude.{Option, None, Some}
+use Prim.Native.Nat.{ℕ, zero, suc, ◌+◌, ◌-◌, ◌/◌, ◌%◌, ◌^◌, ◌≤◌, ◌<◌}
 use native.Mathlib.Omega.{arith}
 use lib.Dec.{eqb}
 use lib.ListN.{length, take, drop, set, length-append}
 use borrow.Author.Tests.{le-leb, eqb-false, not-true, ne_eqb, eq-eqb}
 use Rattle.le.specs.Numbers.{unle, number_at}
-use Rattle.le.specs.Bytes.{Bytes}
-use Rattle.le.proofs.Places.{number_lt}
 use Rattle.le.proofs.Tail.{put_first, put_next, put_byte, lent, back}
 use Rattle.status.specs.declared.Status.{Status}
 use Rattle.status.specs.declared.Status.TheVariants.{Success, NameTooLong}
@@ -24,7 +22,6 @@ use Rattle.hex_text.proofs.Digits.{length-hex_word}
 use Rattle.file_ids.specs.Ids.{id_number, id_bytes}
 use Rattle.file_ids.proofs.Ids.{number-back}
 use Rattle.file_table.specs.Table.{Row, find, row_name}
-use Rattle.file_table.specs.Steps.{row_at}
 use Rattle.file_path.specs.Path.{Way, reached, stopped, below, step, joined, upward, way_reply}
 use Rattle.file_path.specs.Steps.{path_of}
 use Rattle.usn_listing.proofs.Writing.{Written, put_written}
@@ -46,14 +43,13 @@ length-half : (x : ℕ) → length (half_text x) ≡ 16
 length-half x =
     length-append (hex_word (x / 2 ^ 32)) (hex_word (x % 2 ^ 32)) ∙ omega (arith, length-hex_word (x / 2 ^ 32), length-hex_word (x % 2 ^ 32))
 
-id-text : (low high : ℕ) → low < 2 ^ 64 → half_text high ++ half_text low ≡ id_text (low + 2 ^ 64 * high)
+id-text : (n : ℕ) → half_text (n / 2 ^ 64) ++ half_text (n % 2 ^ 64) ≡ id_text n
 unfolding id_text
-id-text low high h =
-    let a : (low + 2 ^ 64 * high) / 2 ^ 96 ≡ high / 2 ^ 32 = omega arith in
-    let b : (low + 2 ^ 64 * high) / 2 ^ 64 % 2 ^ 32 ≡ high % 2 ^ 32 = omega arith in
-    let c : (low + 2 ^ 64 * high) / 2 ^ 32 % 2 ^ 32 ≡ low / 2 ^ 32 = omega arith in
-    let d : (low + 2 ^ 64 * high) % 2 ^ 32 ≡ low % 2 ^ 32 = omega arith in
-    rw (a, b, c, d) (append_assoc (hex_word (high / 2 ^ 32)) (hex_word (high % 2 ^ 32)) (half_text low))
+id-text n =
+    let a : n / 2 ^ 64 / 2 ^ 32 ≡ n / 2 ^ 96 = omega arith in
+    let b : n % 2 ^ 64 / 2 ^ 32 ≡ n / 2 ^ 32 % 2 ^ 32 = omega arith in
+    let c : n % 2 ^ 64 % 2 ^ 32 ≡ n % 2 ^ 32 = omega arith in
+    rw (a, b, c) (append_assoc (hex_word (n / 2 ^ 96)) (hex_word (n / 2 ^ 64 % 2 ^ 32)) (hex_word (n / 2 ^ 32 % 2 ^ 32) ++ hex_word (n % 2 ^ 32)))
 
 pub length-id : (n : ℕ) → length (id_text n) ≡ 32
 unfolding id_text
@@ -61,11 +57,11 @@ length-id n =
     simp length-append
     (omega (arith, length-hex_word (n / 2 ^ 96), length-hex_word (n / 2 ^ 64 % 2 ^ 32), length-hex_word (n / 2 ^ 32 % 2 ^ 32), length-hex_word (n % 2 ^ 32)))
 
-pub id-out : (low high : ℕ) (o l₁ l₂ : List ℕ) → low < 2 ^ 64 → 32 ≤ length o → l₁ ≡ half_text high ++ drop 16 o → l₂ ≡ half_text low ++ drop 16 (lent 16 l₁)
-    → back 16 l₁ l₂ ≡ id_text (low + 2 ^ 64 * high) ++ drop 32 o
-id-out low high o l₁ l₂ k h q₁ q₂ =
-    (put_next (put_first 16 (half_text high) o l₁ (length-half high) q₁) 16 (half_text low) l₂ (length-half low) h q₂).whole
-    ∙ ap (λ (t : List ℕ). t ++ drop 32 o) (id-text low high k)
+pub id-out : (n : ℕ) (o l₁ l₂ : List ℕ) → 32 ≤ length o → l₁ ≡ half_text (n / 2 ^ 64) ++ drop 16 o → l₂ ≡ half_text (n % 2 ^ 64) ++ drop 16 (lent 16 l₁)
+    → back 16 l₁ l₂ ≡ id_text n ++ drop 32 o
+id-out n o l₁ l₂ h q₁ q₂ =
+    (put_next (put_first 16 (half_text (n / 2 ^ 64)) o l₁ (length-half (n / 2 ^ 64)) q₁) 16 (half_text (n % 2 ^ 64)) l₂ (length-half (n % 2 ^ 64)) h q₂).whole
+    ∙ ap (λ (t : List ℕ). t ++ drop 32 o) (id-text n)
 
 -- ---- the way
 
@@ -107,16 +103,16 @@ module _ (pool : List ℕ) (rs : List Row) (root : ℕ) where
     where
       go : (b : Bool) (r : Option Row) → ((n : ℕ) → fails (upward pool rs root left n) ≡ true) → fails (cond b (reached []) (step pool r (upward pool rs root left))) ≡ true
       go true r k = refl
-      go false none k = refl
-      go false (some r) k = fails-below (row_name pool r) (upward pool rs root left (id_number r.parent)) (k (id_number r.parent))
+      go false None k = refl
+      go false (Some r) k = fails-below (row_name pool r) (upward pool rs root left (id_number r.parent)) (k (id_number r.parent))
 
   pub up-told : (left id : ℕ) → eqb id root ≡ false → told (upward pool rs root (suc left) id) ≡ true
   unfolding upward
   up-told left id e = rw e (go (find id rs))
     where
       go : (r : Option Row) → told (step pool r (upward pool rs root left)) ≡ true
-      go none = refl
-      go (some r) = told_below (row_name pool r) (upward pool rs root left (id_number r.parent)) (up-fails left (id_number r.parent))
+      go None = refl
+      go (Some r) = told_below (row_name pool r) (upward pool rs root left (id_number r.parent)) (up-fails left (id_number r.parent))
 
 -- what the reply says of the way of a file that is not the root
 module _ (r : Answer) (old new : List ℕ) (room : ℕ) (h : room ≤ length old) where
@@ -148,18 +144,15 @@ pub root-out : (pool : List ℕ) (rs : List Row) (root left id : ℕ) (o out : L
 unfolding upward
 root-out pool rs root left id o out e q = rw e (refl, omega arith, q)
 
--- two ids are compared by numbers that are theirs
-pub same_test : (a b m n : ℕ) → a ≡ m → b ≡ n → eqb a b ≡ eqb m n
-same_test a b m n e f = rw (e, f)
-
 -- ---- the line
 
--- the id that was copied from a row is the row's
-pub row-id : (table id : List ℕ) (at : ℕ) → Bytes table → id ≡ id_bytes (unle (take (at + 16 - at) (drop at table))) → id_number id ≡ id_number (row_at table at).id
+-- the id that was copied from a row is the one that was read there
+pub row-id : (table id : List ℕ) (at n : ℕ) → n < 2 ^ 128 → n ≡ number_at table at 16 → id ≡ id_bytes (unle (take (at + 16 - at) (drop at table))) → n ≡ id_number id
 unfolding number_at
-row-id table id at b e =
-    let n : at + 16 - at ≡ 16 = omega arith in
-    ap (λ (l : List ℕ). unle l) (rw n at e) ∙ number-back (unle (take 16 (drop at table))) (number_lt table at 16 b)
+row-id table id at n h q e =
+    let z : at + 16 - at ≡ 16 = omega arith in
+    let i : id ≡ id_bytes n = rw z at e ∙ ap id_bytes (sym q) in
+    sym (ap id_number i ∙ number-back n h)
 
 pub line-out : (n m : ℕ) (shown o l₁ l₂ : List ℕ) → 98332 ≤ length o → l₁ ≡ id_text n ++ drop 32 o
     → Written (lent 33 (set l₁ 32 32)) m 98298 shown l₂
@@ -170,12 +163,12 @@ line-out n m shown o l₁ l₂ h q₁ q₂ =
     put_written (put_byte p₂ 10 (omega arith)) 98332 (id_text n ++ (32 ∷ (shown ++ (10 ∷ [])))) (simp append_assoc) (omega arith)
 
 -- with the row's own id
-pub row_line : (pool : List ℕ) (rs : List Row) (root : ℕ) (r : Row) (n m key : ℕ) (o l₁ l₂ : List ℕ) → 98332 ≤ length o → key ≡ n → n ≡ id_number r.id
-    → l₁ ≡ id_text key ++ drop 32 o
-    → Written (lent 33 (set l₁ 32 32)) m 98298 (way_text (upward pool rs root 64 n)) l₂
+pub row_line : (pool : List ℕ) (rs : List Row) (root : ℕ) (r : Row) (n m : ℕ) (id o l₁ l₂ : List ℕ) → 98332 ≤ length o → n ≡ id_number id → n ≡ id_number r.id
+    → l₁ ≡ id_text n ++ drop 32 o
+    → Written (lent 33 (set l₁ 32 32)) m 98298 (way_text (upward pool rs root 64 (id_number id))) l₂
     → Written o (33 + m + 1) 98332 (path_line pool rs root r) (set (back 33 (set l₁ 32 32) l₂) (33 + m) 10)
 unfolding path_line
-row_line pool rs root r n m key o l₁ l₂ h k e q₁ q₂ =
-    let a : l₁ ≡ id_text (id_number r.id) ++ drop 32 o = q₁ ∙ ap (λ (x : ℕ). id_text x ++ drop 32 o) (k ∙ e) in
+row_line pool rs root r n m id o l₁ l₂ h k e q₁ q₂ =
+    let a : l₁ ≡ id_text (id_number r.id) ++ drop 32 o = q₁ ∙ ap (λ (x : ℕ). id_text x ++ drop 32 o) e in
     line-out (id_number r.id) m (way_text (upward pool rs root 64 (id_number r.id))) o l₁ l₂ h a
-    (way_out (lent 33 (set l₁ 32 32)) l₂ _ _ m 98298 98298 q₂ (ap (λ (x : ℕ). way_text (upward pool rs root 64 x)) e) (omega arith))
+    (way_out (lent 33 (set l₁ 32 32)) l₂ _ _ m 98298 98298 q₂ (ap (λ (x : ℕ). way_text (upward pool rs root 64 x)) (sym k ∙ e)) (omega arith))

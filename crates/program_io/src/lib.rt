@@ -30,7 +30,8 @@ fn has_argument(rt: &impl Env, i: usize) -> bool {
     !matches!(rt.arg(i, &mut room), Err(FillError::NotPresent))
 }
 
-// Puts argument i at the start of `buf`, and says how many bytes it has: 0 where there is none, or where it does not fit.
+// Puts argument i at the start of `buf`, and says how many bytes it has: 0 where there is none, or where it does not fit. An empty argument
+// and none are one to every program, so an Option would only be taken apart again.
 pub fn argument(rt: &impl Env, i: usize, buf: &mut [u8]) -> usize
     ensures { result ≤ length buf.old }
 {

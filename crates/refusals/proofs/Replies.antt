@@ -3,7 +3,7 @@
 use mathlib.Core.Path.{◌≡◌, refl, sym, ◌∙◌}
 use mathlib.Core.Bool.{Bool, true, false, cond}
 use mathlib.Core.List.{List}
-use mathlib.Core.Option.{Option, none, some}
+use Rattle.std.specs.Prelude.{Option, None, Some}
 use Prim.Native.Nat.{ℕ, ◌<◌}
 use native.Mathlib.Omega.{arith}
 use lib.Dec.{leb}
@@ -34,8 +34,8 @@ module _ {W : ℕ → Type 0} where
   fair-warn bytes w = record { refused = refutes false refl; warned = λ h. w }
 
   pub fair-guard : (k : Option Status) (r : Reply) → Never BufferOverflow k → Fair W r → Fair W (guard k r)
-  fair-guard none r c p = p
-  fair-guard (some x) r c p = fair-refuse x c.other
+  fair-guard None r c p = p
+  fair-guard (Some x) r c p = fair-refuse x c.other
 
   -- what the test leaves is known behind it
   pub fair-leb : (m n : ℕ) (r s : Reply) → Fair W r → (n < m → Fair W s) → Fair W (cond (leb m n) r s)

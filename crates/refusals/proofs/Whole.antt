@@ -3,7 +3,7 @@
 use mathlib.Core.Path.{◌≡◌, refl, ap₂}
 use mathlib.Core.Bool.{Bool, true, false, cond}
 use mathlib.Core.List.{List, [], append-nil}
-use mathlib.Core.Option.{Option, none, some}
+use Rattle.std.specs.Prelude.{Option, None, Some}
 use Prim.Native.Nat.{ℕ, zero, suc, ◌+◌, ◌*◌, ◌<◌}
 use native.Mathlib.Omega.{arith}
 use lib.Dec.{leb, eqb}
@@ -20,7 +20,7 @@ use Rattle.volume.specs.declared.Volume.{Volume}
 use Rattle.volume.specs.Calls.{performed, create_check, delete_check, finish_check}
 use Rattle.journal_post.specs.declared.Verdict.{Verdict}
 use Rattle.journal_post.specs.declared.Verdict.TheVariants.{Skip, Reject, Accept}
-use Rattle.journal_post.specs.Post.{post_check, skipped, checked, verdict, verdict_status, leaves}
+use Rattle.journal_post.specs.Post.{post_check, skipped, checked, verdict, verdict_status, leaves, rejection}
 use Rattle.journal_page.specs.declared.Filter.{Filter}
 use Rattle.journal_page.specs.Page.{page_of, empty, page_check, page_reply}
 use Rattle.journal_page.proofs.Giving.{page-stops}
@@ -46,7 +46,7 @@ use Rattle.image_save.specs.Save.{save_check, save_as, save_reply}
 use Rattle.image_move.specs.Move.{moved_reply, move_from, move_reply}
 use Rattle.image_load.specs.Load.{settled, fit_check, image_check, load_check}
 use Rattle.reparse_update.specs.declared.Update.{Update}
-use Rattle.reparse_update.specs.Update.{given_check, rejection, Point, update_check, left_by, update_left}
+use Rattle.reparse_update.specs.Update.{given_check, Point, update_check, left_by, update_left}
 use Rattle.history.specs.Calls.{Call, create, post, read, delete, finish, save, load, update, status_of, next}
 use Rattle.refusals.proofs.Replies.{refutes, Fair, fair-refuse, fair-give, fair-warn, fair-guard, fair-leb, fairs, fair-never}
 use Rattle.refusals.specs.Refusal.{is_warning, is_refusal, Control, read_journal, save_journal, move_image, read_file, read_file_table, enumerate_files, file_path, query_regions, get_reparse_point, list_records, list_image, write_record, copy_record, copy_older, reply_of, usn_after, Warned, Refusals}
@@ -78,10 +78,10 @@ refusals-are-errors JournalEntryDeleted = refl
 
 fair-from : {W : ℕ → Type 0} (v : Version) (f : Filter) (room p : ℕ) (rs : Option (List Record)) → Fair W (answer_from v f room p rs)
 unfolding page_reply
-fair-from v f room p none = search fairs
-fair-from v f room p (some rs) =
+fair-from v f room p None = search fairs
+fair-from v f room p (Some rs) =
     let page = page_of v f room p rs in
-    fair-guard (page_check page) _ (never-cond (empty page.given) page.stop none (page-stops refl refl v f room p rs) never-none) (search fairs)
+    fair-guard (page_check page) _ (never-cond (empty page.given) page.stop None (page-stops refl refl v f room p rs) never-none) (search fairs)
 
 fair-read : {W : ℕ → Type 0} (v : Volume) (ring input : List ℕ) (room : ℕ) → Fair W (read_reply v ring input room)
 unfolding read_reply read_answer argument_check deleted_check
@@ -96,19 +96,19 @@ unfolding save_reply save_check
 fair-save {W = W} v ring form room = search (fairs, fair-form)
   where
     fair-form : (o : Option Version) → Fair W (save_as o v ring room)
-    fair-form none = search fairs
-    fair-form (some f) = search (fairs, fair-image)
+    fair-form None = search fairs
+    fair-form (Some f) = search (fairs, fair-image)
 
 fair-move : {W : ℕ → Type 0} (s : List ℕ) (from room : ℕ) → Fair W (move_reply from s room)
 fair-move {W = W} s from room = fair-form (form_version from)
   where
     fair-held : (w : Version) (o : Option Image) → Fair W (moved_reply w o room)
-    fair-held w none = search fairs
-    fair-held w (some i) = fair-image w i room
+    fair-held w None = search fairs
+    fair-held w (Some i) = fair-image w i room
 
     fair-form : (o : Option Version) → Fair W (move_from o s room)
-    fair-form none = search fairs
-    fair-form (some v) = search (fairs, fair-held)
+    fair-form None = search fairs
+    fair-form (Some v) = search (fairs, fair-held)
 
 fair-files : {W : ℕ → Type 0} (v : Volume) (table pool input : List ℕ) (room : ℕ) → Fair W (enum_reply v table pool input room)
 unfolding enum_reply enum_check input_check files.page_reply
@@ -134,8 +134,8 @@ calm-up pool rs root (suc left) id = by (eqb id root) (find id rs) (calm-up pool
 
     by : (b : Bool) (o : Option Row) → ((n : ℕ) → Calm (upward pool rs root left n)) → Calm (cond b (reached []) (step pool o (upward pool rs root left)))
     by true o c = tt
-    by false none c = refl
-    by false (some r) c = calm-below (row_name pool r) (upward pool rs root left (id_number r.parent)) (c (id_number r.parent))
+    by false None c = refl
+    by false (Some r) c = calm-below (row_name pool r) (upward pool rs root left (id_number r.parent)) (c (id_number r.parent))
 
 fair-path : {W : ℕ → Type 0} (table pool id root : List ℕ) (room : ℕ) → Fair W (path_reply table pool id root room)
 unfolding path_reply
@@ -180,12 +180,12 @@ fair-control (copy_older bytes) room = search fairs
 -- ---- what changes records
 
 performed-refusal : (k : Option Status) (old new : Volume) → is_refusal (performed k old new).status ≡ true → (performed k old new).volume ≡ old
-performed-refusal none old new h = refutes false refl h
-performed-refusal (some x) old new h = refl
+performed-refusal None old new h = refutes false refl h
+performed-refusal (Some x) old new h = refl
 
 settled-refusal : {A : Type 0} (k : Option Status) (old new : Volume) (x y : A) → is_refusal (performed k old new).status ≡ true → settled k x y ≡ x
-settled-refusal none old new x y h = refutes false refl h
-settled-refusal (some z) old new x y h = refl
+settled-refusal None old new x y h = refutes false refl h
+settled-refusal (Some z) old new x y h = refl
 
 posted-refusal : {A : Type 0} (d : Verdict) (old new : A) → is_refusal (verdict_status d) ≡ true → leaves d old new ≡ old
 posted-refusal Skip old new h = refl
@@ -193,8 +193,8 @@ posted-refusal (Reject x) old new h = refl
 posted-refusal Accept old new h = refutes false refl h
 
 left-refusal : (k : Option Status) (j i : Journal) (p f : Point) → is_refusal (left_by k j p i f).status ≡ true → ((left_by k j p i f).journal ≡ j) × ((left_by k j p i f).point ≡ p)
-left-refusal none j i p f h = refutes false refl h
-left-refusal (some x) j i p f h = (refl, refl)
+left-refusal None j i p f h = refutes false refl h
+left-refusal (Some x) j i p f h = (refl, refl)
 
 -- the journal, from its two parts
 same : (j : Journal) {v : Volume} {ring : List ℕ} → v ≡ j.volume → ring ≡ j.ring → ◌≡◌ {A = Journal} (record { volume = v; ring = ring }) j
@@ -221,26 +221,26 @@ point-refusal j u p q input h = (left-refusal (update_check u j p q input) j _ p
 
 never-image : (v : Volume) (n id : ℕ) (i : Option Image) → Never BufferOverflow (image_check v n id i)
 unfolding fit_check
-never-image v n id none = search nevers
-never-image v n id (some i) = search nevers
+never-image v n id None = search nevers
+never-image v n id (Some i) = search nevers
 
 performed-never : (k : Option Status) (old new : Volume) → Never BufferOverflow k → is_warning (performed k old new).status ≡ false
-performed-never none old new c = refl
-performed-never (some x) old new c = c.other
+performed-never None old new c = refl
+performed-never (Some x) old new c = c.other
 
 posted-never : (t : Bool) (k : Option Status) → Never BufferOverflow k → is_warning (verdict_status (cond t Skip (checked k))) ≡ false
 posted-never true k c = refl
-posted-never false none c = refl
-posted-never false (some x) c = c.other
+posted-never false None c = refl
+posted-never false (Some x) c = c.other
 
 rejected-never : (t : Bool) (k : Option Status) → Never BufferOverflow k → Never BufferOverflow (rejection (cond t Skip (checked k)))
 rejected-never true k c = never-none
-rejected-never false none c = never-none
-rejected-never false (some x) c = c
+rejected-never false None c = never-none
+rejected-never false (Some x) c = c
 
 left-never : (k : Option Status) (j i : Journal) (p f : Point) → Never BufferOverflow k → is_warning (left_by k j p i f).status ≡ false
-left-never none j i p f c = refl
-left-never (some x) j i p f c = c.other
+left-never None j i p f c = refl
+left-never (Some x) j i p f c = c.other
 
 call-never : (j : Journal) (c : Call) → is_warning (status_of j c) ≡ false
 unfolding verdict post_check load_check form_check given_check update_check

@@ -1,6 +1,5 @@
 -- Reparse points: both header forms, what every control on one asks first, and FSCTL_GET_REPARSE_POINT.
-use Rattle.std.specs.Prelude.{Bool, not, cond, ◌&&◌, List, [], ◌∷◌, ◌++◌, ℕ, ◌-◌, ◌^◌, leb, eqb, length, take}
-use Rattle.std.proofs.Math.Option.{Option}
+use Rattle.std.specs.Prelude.{Bool, not, cond, ◌&&◌, List, [], ◌∷◌, ◌++◌, ℕ, ◌-◌, ◌^◌, leb, eqb, length, take, Option}
 use Rattle.le.specs.Numbers.{encode}
 use Rattle.status.specs.declared.Status.{Status}
 use Rattle.status.specs.declared.Status.TheVariants.{Success, InvalidDeviceRequest, BufferTooSmall, FileCorruptError, NotAReparsePoint, VolumeNotUpgraded}

@@ -3,7 +3,7 @@
 use mathlib.Core.Path.{◌≡◌}
 use mathlib.Core.Bool.{Bool, true, false, cond}
 use mathlib.Core.List.{List}
-use mathlib.Core.Option.{Option, none, some}
+use Rattle.std.specs.Prelude.{Option, None, Some}
 use Prim.Native.Nat.{ℕ}
 use native.Mathlib.Omega.{arith}
 use lib.Dec.{eqb}
@@ -17,14 +17,14 @@ use Rattle.volume.specs.declared.Volume.{Volume}
 use Rattle.file_record.specs.declared.FileRecord.{FileRecord}
 use Rattle.journal_post.specs.declared.Change.{Change}
 use Rattle.journal_post.specs.declared.Verdict.TheVariants.{Skip}
-use Rattle.journal_post.specs.Post.{skipped, post_check, checked, verdict}
+use Rattle.journal_post.specs.Post.{skipped, post_check, checked, verdict, rejection}
 use Rattle.journal_post.specs.Posts.{Journal, Posting}
 use Rattle.reparse_point.specs.Reparse.{points_check}
 use Rattle.reparse_update.specs.declared.Update.{Update}
-use Rattle.reparse_update.specs.Update.{given_check, point_posting, rejection, Point, update_check}
+use Rattle.reparse_update.specs.Update.{given_check, point_posting, Point, update_check}
 
 -- a status that comes from such checks is not a success
-pub never-zero : (x : Status) → Never Success (some x) → number x ≡ 0 → ⊥
+pub never-zero : (x : Status) → Never Success (Some x) → number x ≡ 0 → ⊥
 never-zero x n e =
     let a : eqb (number x) 0 ≡ true = eq-eqb (number x) 0 e in
     let b : eqb (number x) 0 ≡ false = n.other in
@@ -41,8 +41,8 @@ never-rejected v ring c name = go (skipped v c) (post_check v ring name) (never-
   where
     go : (t : Bool) (k : Option Status) → Never Success k → Never Success (rejection (cond t Skip (checked k)))
     go true k n = never-none
-    go false none n = never-none
-    go false (some x) n = n
+    go false None n = never-none
+    go false (Some x) n = n
 
 never-given : (u : Update) (f : FileRecord) (n : ℕ) (input : List ℕ) → Never Success (given_check u f n input)
 unfolding given_check

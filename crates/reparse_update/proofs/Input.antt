@@ -1,21 +1,22 @@
--- What is known of an input that is laid out, and GUIDs compared by their halves.
+-- What is known of an input that is laid out, and GUIDs compared by their numbers.
 -- Assumes nothing.
 use mathlib.Core.Path.{◌≡◌, refl, sym, ap, ap₂, ◌∙◌}
-use mathlib.Core.Bool.{Bool, true, false, not, ◌&&◌}
+use mathlib.Core.Bool.{Bool, true, false, not, cond, ◌&&◌}
 use mathlib.Core.List.{List, ◌++◌, append-nil}
 use Prim.Native.Nat.{ℕ, ◌+◌, ◌^◌, ◌≤◌, ◌<◌}
 use native.Mathlib.Omega.{arith}
 use lib.Dec.{leb, eqb}
-use lib.ListN.{length, take, drop, length-drop, drop_of_length-le}
+use lib.ListN.{length, take, drop, replicate, length-drop, drop_of_length-le}
 use lib.Seq.{length-take-le}
-use borrow.Author.Tests.{leb-true, le-leb, lt-leb, eqb-true, eqb-false, eq-eqb, ne_eqb}
-use Rattle.le.specs.Numbers.{unle, number_at}
-use Rattle.le.proofs.Runs.{and_left, and_right}
-use Rattle.le.proofs.Places.{number_lt}
+use borrow.Author.Tests.{leb-true, leb-false, lt-leb, eqb-true, eq-eqb, ne_eqb}
+use Rattle.std.specs.Cmp.Lexicographic.{pointwise, same_text, other_text}
+use Rattle.le.specs.Numbers.{le, unle}
+use Rattle.le.specs.Bytes.{Bytes}
+use Rattle.le.proofs.Numbers.{le-unle, bytes_drop, bytes_take}
+use Rattle.le.proofs.Runs.{and_left, and_right, are-bytes}
 use Rattle.file_ids.specs.Ids.{Id}
-use Rattle.file_ids.proofs.Ids.{id-halves}
 use Rattle.file_record.specs.declared.FileRecord.{FileRecord}
-use Rattle.reparse_point.specs.Reparse.{header_length}
+use Rattle.reparse_point.specs.Reparse.{is_microsoft, header_length}
 use Rattle.reparse_point.proofs.Writing.{header-least, header-whole}
 use Rattle.reparse_update.specs.Update.{given_tag, given_length, given_reserved, given_guid, is_laid_out, has_other_guid}
 
@@ -53,53 +54,45 @@ guid-copied input zeroes guid h z e =
     let l : length (take 16 (drop 8 input)) ≡ 16 = length-take-le 16 (drop 8 input) (omega (arith, h, length-drop 8 input)) in
     e ∙ ap (λ (x : List ℕ). take 16 (drop 8 input) ++ x) (drop_of_length-le zeroes {i = length (take 16 (drop 8 input))} (omega (arith, l, z))) ∙ append-nil _
 
--- ---- judging one, test by test
+-- what is known of the length of a header
+pub ruleset headers = (header-least, header-whole)
 
-pub none-short : (input : List ℕ) → length input < 8 → is_laid_out input ≡ false
-unfolding is_laid_out
-none-short input h =
-    let l : length input < header_length (given_tag input) = omega (arith, h, header-least (given_tag input)) in
-    rw (lt-leb _ _ l)
+pub laid_long : (input : List ℕ) → is_laid_out input ≡ true → 8 ≤ length input
+laid_long input e = (parts-of input e).eight
 
-pub none-cut : (input : List ℕ) (head : ℕ) → head ≡ header_length (given_tag input) → length input < head → is_laid_out input ≡ false
-unfolding is_laid_out
-none-cut input head a h = rw (← a, lt-leb _ _ h)
+-- and of an input that is laid out
+pub ruleset laid = (laid_long, guid-there)
 
-module _ (input : List ℕ) (head n : ℕ) (a : head ≡ header_length (given_tag input)) (b : n ≡ given_length input) where
-  pub none_other : head ≤ length input → (head + n ≡ length input → ⊥) → is_laid_out input ≡ false
-  unfolding is_laid_out
-  none_other h w = rw (← a, ← b, le-leb _ _ h, ne_eqb _ _ w)
-
-  module _ (h : head ≤ length input) (w : head + n ≡ length input) where
-    pub none-long : 16384 < length input → is_laid_out input ≡ false
-    unfolding is_laid_out
-    none-long l = rw (← a, ← b, le-leb _ _ h, eq-eqb _ _ w, lt-leb _ _ l)
-
-    pub by-reserved : length input ≤ 16384 → is_laid_out input ≡ eqb (given_reserved input) 0
-    unfolding is_laid_out
-    by-reserved l = rw (← a, ← b, le-leb _ _ h, eq-eqb _ _ w, le-leb _ _ l)
-
--- ---- GUIDs by their halves
+-- ---- GUIDs by their numbers
 
 module _ (a b : List ℕ) (i : Id a) (j : Id b) where
-  pub low-differs : (number_at a 0 8 ≡ number_at b 0 8 → ⊥) → eqb (unle a) (unle b) ≡ false
-  low-differs n =
-      ne_eqb (unle a) (unle b) (λ e.
-      let x : number_at a 0 8 < 2 ^ 64 = number_lt a 0 8 i.bytes in
-      let y : number_at b 0 8 < 2 ^ 64 = number_lt b 0 8 j.bytes in
-      n (omega (arith, e, id-halves a i, id-halves b j, x, y)))
+  alike : unle a ≡ unle b → a ≡ b
+  alike e = sym (le-unle a i.bytes) ∙ ap₂ le (i.size ∙ sym j.size) e ∙ le-unle b j.bytes
 
-  pub low_same : number_at a 0 8 ≡ number_at b 0 8 → eqb (number_at a 8 8) (number_at b 8 8) ≡ eqb (unle a) (unle b)
-  low_same e = go (eqb (number_at a 8 8) (number_at b 8 8)) refl
+  -- two GUIDs are one if their numbers are
+  same_number : pointwise eqb a b ≡ eqb (unle a) (unle b)
+  same_number = go (pointwise eqb a b) refl
     where
-      go : (t : Bool) → eqb (number_at a 8 8) (number_at b 8 8) ≡ t → t ≡ eqb (unle a) (unle b)
-      go true q = let h : number_at a 8 8 ≡ number_at b 8 8 = eqb-true _ _ q in sym (eq-eqb (unle a) (unle b) (omega (arith, e, h, id-halves a i, id-halves b j)))
-      go false q =
-          sym (ne_eqb (unle a) (unle b) (λ w. let h : number_at a 8 8 ≡ number_at b 8 8 = omega (arith, e, w, id-halves a i, id-halves b j) in eqb-false _ _ q h))
+      go : (t : Bool) → pointwise eqb a b ≡ t → t ≡ eqb (unle a) (unle b)
+      go true e = sym (eq-eqb _ _ (ap unle (same_text a b (sym e))))
+      go false e = sym (ne_eqb _ _ (λ n. other_text a b (sym e) (alike n)))
+
+-- what is given is a GUID
+given-id : (input : List ℕ) → Bytes input → is_laid_out input ≡ true → Id (given_guid input)
+given-id input b e = go (is_microsoft (given_tag input)) refl
+  where
+    go : (t : Bool) → is_microsoft (given_tag input) ≡ t → Id (cond t (replicate 16 0) (take 16 (drop 8 input)))
+    go true h = record { size = refl; bytes = are-bytes (replicate 16 0) refl }
+    go false h =
+        record {
+          size = length-take-le 16 (drop 8 input) (omega (arith, length-drop 8 input, guid-there input e (leb-false _ _ h)));
+          bytes = bytes_take 16 (drop 8 input) (bytes_drop 8 input b);
+        }
 
 -- the tag given stands, which is not Microsoft's: the GUIDs decide
-pub guid-decides : (f : FileRecord) (input guid : List ℕ) (same : Bool) → f.tag ≡ given_tag input → f.tag < 2 ^ 31 → guid ≡ given_guid input → same ≡ eqb (unle f.guid) (unle guid)
-    → not same ≡ has_other_guid f input
-guid-decides f input guid same t m g e =
-    ap not (e ∙ ap (λ (x : List ℕ). eqb (unle f.guid) (unle x)) g)
+pub guid-decides : (f : FileRecord) (input guid : List ℕ) → Bytes input → is_laid_out input ≡ true → Id f.guid
+    → f.tag ≡ given_tag input → f.tag < 2 ^ 31 → guid ≡ given_guid input → not (pointwise eqb f.guid guid) ≡ has_other_guid f input
+guid-decides f input guid b e i t m g =
+    ap (λ (x : List ℕ). not (pointwise eqb f.guid x)) g
+    ∙ ap not (same_number f.guid (given_guid input) i (given-id input b e))
     ∙ sym (ap₂ (λ (x y : Bool). x && (not y && not (eqb (unle f.guid) (unle (given_guid input))))) (eq-eqb _ _ t) (lt-leb _ _ m))

@@ -3,7 +3,7 @@
 use mathlib.Core.Path.{◌≡◌, refl, sym, ap, ap₂, ◌∙◌, subst}
 use mathlib.Core.Bool.{Bool, true, false, not, cond, ◌&&◌, ◌||◌}
 use mathlib.Core.List.{List, [], ◌∷◌, ◌++◌, append-nil}
-use mathlib.Core.Option.{Option, none, some}
+use Rattle.std.specs.Prelude.{Option, None, Some}
 use Prim.Native.Nat.{ℕ, ◌+◌, ◌-◌, ◌^◌, ◌≤◌, ◌<◌}
 use native.Mathlib.Omega.{arith}
 use lib.Dec.{leb, eqb}
@@ -23,13 +23,13 @@ use Rattle.volume.specs.declared.Volume.{Volume}
 use Rattle.file_record.specs.declared.FileRecord.{FileRecord}
 use Rattle.journal_post.specs.declared.Verdict.{Verdict}
 use Rattle.journal_post.specs.declared.Verdict.TheVariants.{Skip, Reject, Accept}
-use Rattle.journal_post.specs.Post.{end_of, verdict, leaves, posted_volume, posted_ring, post_usn}
+use Rattle.journal_post.specs.Post.{end_of, verdict, rejection, leaves, posted_volume, posted_ring, post_usn}
 use Rattle.journal_post.specs.Posts.{Journal, Posting, after_post}
 use Rattle.reparse_point.specs.Reparse.{is_microsoft, most_data, header_length, reparse_header, points_check, good_point, reparse_check, reparse_bytes, reparse_reply}
 use Rattle.reparse_point.proofs.Writing.{header-least, header-whole}
 use Rattle.reparse_update.specs.declared.Update.{Update}
 use Rattle.reparse_update.specs.declared.Update.TheVariants.{Set, Delete}
-use Rattle.reparse_update.specs.Update.{given_tag, given_length, given_guid, given_data, is_laid_out, is_delete, given_check, point_posting, rejection, Point, with_point, new_point, update_check, Left, left_by, update_left}
+use Rattle.reparse_update.specs.Update.{given_tag, given_length, given_guid, given_data, is_laid_out, is_delete, given_check, point_posting, Point, with_point, new_point, update_check, Left, left_by, update_left}
 use Rattle.reparse_update.specs.Points.{SucceedsWith, Gets, Passes, Points}
 use Rattle.reparse_update.proofs.Checked.{never-zero, never-updated}
 use Rattle.reparse_update.proofs.Input.{Parts, parts-of}
@@ -37,40 +37,40 @@ use Rattle.reparse_update.proofs.Updating.{given-facts}
 
 -- ---- what a call that succeeded has passed, and what it left
 
-passes : (k : Option Status) (j i : Journal) (p new : Point) → Never Success k → (left_by k j p i new).status ≡ Success → k ≡ none
-passes none j i p new n e = refl
-passes (some x) j i p new n e = absurd (never-zero x n (ap number e))
+passes : (k : Option Status) (j i : Journal) (p new : Point) → Never Success k → (left_by k j p i new).status ≡ Success → k ≡ None
+passes None j i p new n e = refl
+passes (Some x) j i p new n e = absurd (never-zero x n (ap number e))
 
 module _ (u : Update) (j : Journal) (p : Point) (q : Posting) (input : List ℕ) (e : (update_left u j p q input).status ≡ Success) where
   abbrev usn : ℕ
   usn = post_usn j.volume j.ring (point_posting q).change (point_posting q).name p.file.usn
 
-  passed : update_check u j p q input ≡ none
+  passed : update_check u j p q input ≡ None
   passed = passes (update_check u j p q input) j (after_post j (point_posting q)) p (new_point u p usn input) (never-updated u j p q input) e
 
-  left_is : update_left u j p q input ≡ left_by none j p (after_post j (point_posting q)) (new_point u p usn input)
+  left_is : update_left u j p q input ≡ left_by None j p (after_post j (point_posting q)) (new_point u p usn input)
   left_is = ap (λ (o : Option Status). left_by o j p (after_post j (point_posting q)) (new_point u p usn input)) passed
 
-  supported : points_check j.volume ≡ none
+  supported : points_check j.volume ≡ None
   unfolding update_check
   supported = else-left (points_check j.volume) _ passed
 
-  given : given_check u p.file (length p.store) input ≡ none
+  given : given_check u p.file (length p.store) input ≡ None
   unfolding update_check
   given = else-left (given_check u p.file (length p.store) input) _ (else-right (points_check j.volume) _ passed)
 
   -- the post leaves the support flags
-  keeps-support : points_check (update_left u j p q input).journal.volume ≡ none
+  keeps-support : points_check (update_left u j p q input).journal.volume ≡ None
   unfolding posted_volume
   keeps-support = ap (λ (l : Left). points_check l.journal.volume) left_is ∙ go (verdict j.volume j.ring (point_posting q).change (point_posting q).name)
     where
-      go : (d : Verdict) → points_check (leaves d j.volume (posted_volume j.volume j.ring (point_posting q).name)) ≡ none
+      go : (d : Verdict) → points_check (leaves d j.volume (posted_volume j.volume j.ring (point_posting q).name)) ≡ None
       go Skip = supported
       go (Reject x) = supported
       go Accept = supported
 
 -- the tag that is given is not 0
-tag-given : (u : Update) (f : FileRecord) (n : ℕ) (input : List ℕ) → given_check u f n input ≡ none → eqb (given_tag input) 0 ≡ false
+tag-given : (u : Update) (f : FileRecord) (n : ℕ) (input : List ℕ) → given_check u f n input ≡ None → eqb (given_tag input) 0 ≡ false
 unfolding given_check
 tag-given u f n input e =
     let k = else-right (unless (is_laid_out input && (not (is_delete u) || eqb (given_length input) 0)) IoReparseDataInvalid) _ (else-right (unless (good_point f n) FileCorruptError) _ e) in
@@ -148,7 +148,7 @@ module _ (input store : List ℕ) (b : Bytes input) (x : Parts input) (m : 16376
 -- ---- the replies
 
 -- behind the support and the file record: the tag and the room
-reply-is : (w : Volume) (f : FileRecord) (store : List ℕ) (room : ℕ) → points_check w ≡ none → good_point f (length store) ≡ true
+reply-is : (w : Volume) (f : FileRecord) (store : List ℕ) (room : ℕ) → points_check w ≡ None → good_point f (length store) ≡ true
     → reparse_reply w f store room
     ≡ guard (else (unless (not (eqb f.tag 0)) NotAReparsePoint) (unless (leb (header_length f.tag) room) BufferTooSmall)) (give Success (reparse_bytes f store room))
 unfolding reparse_reply reparse_check

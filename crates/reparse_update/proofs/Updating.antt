@@ -1,49 +1,38 @@
 -- A call whose own checks have passed: the post decides, and what is left of the records, the ring and the store.
 -- Assumes nothing.
-use mathlib.Core.Path.{◌≡◌, refl, sym, ap, ◌∙◌, subst}
-use mathlib.Core.Bool.{Bool, true, false, not, ◌&&◌, ◌||◌}
+use mathlib.Core.Path.{◌≡◌, refl, sym, ap, ◌∙◌}
+use mathlib.Core.Bool.{true, not, ◌&&◌, ◌||◌}
 use mathlib.Core.List.{List, ◌++◌}
-use mathlib.Core.Option.{Option, none, some}
+use Rattle.std.specs.Prelude.{Option, None, Some, Result, Ok, Err}
 use Prim.Native.Nat.{ℕ, ◌-◌, ◌≤◌}
 use native.Mathlib.Omega.{arith}
 use lib.Dec.{leb, eqb}
 use lib.ListN.{length, take, drop, length-drop}
 use lib.Seq.{take_all}
-use borrow.Author.Tests.{leb-true, eqb-true, eqb-false}
+use borrow.Author.Tests.{leb-true}
 use Rattle.le.proofs.Runs.{and_left}
 use Rattle.status.specs.declared.Status.{Status}
-use Rattle.status.specs.declared.Status.TheVariants.{Success, FileCorruptError, IoReparseDataInvalid}
-use Rattle.status.specs.Number.{number}
-use Rattle.status.specs.Check.{unless, else}
-use Rattle.status.proofs.Checking.{else-none, else-left, else-right, unless-true, both-pass, both-refuse, Never}
-use Rattle.status.proofs.Numbers.{same-status}
+use Rattle.status.specs.declared.Status.TheVariants.{FileCorruptError, IoReparseDataInvalid}
+use Rattle.status.specs.Check.{unless, else, judged}
+use Rattle.status.proofs.Checking.{else-none, else-left, else-right, unless-true, both-pass, both-refuse, told-refused, told-passed}
 use Rattle.volume.specs.declared.Volume.{Volume}
 use Rattle.file_record.specs.declared.FileRecord.{FileRecord}
 use Rattle.journal_post.specs.declared.Change.{Change}
 use Rattle.journal_post.specs.declared.Verdict.{Verdict}
 use Rattle.journal_post.specs.declared.Verdict.TheVariants.{Skip, Reject, Accept}
-use Rattle.journal_post.specs.Post.{verdict, verdict_status, leaves, end_of, posted_volume, posted_ring, post_usn}
+use Rattle.journal_post.specs.Post.{verdict, rejection, leaves, end_of, posted_volume, posted_ring, post_usn}
 use Rattle.journal_post.specs.Posts.{Journal, Posting, after_post}
 use Rattle.reparse_point.specs.Reparse.{header_length, points_check, good_point}
 use Rattle.reparse_point.proofs.Writing.{header-least}
 use Rattle.reparse_update.specs.declared.Update.{Update}
-use Rattle.reparse_update.specs.declared.Update.TheVariants.{Delete}
-use Rattle.reparse_update.specs.declared.Updated.{Updated}
-use Rattle.reparse_update.specs.Update.{given_tag, given_length, given_data, is_laid_out, is_delete, given_check, point_change, point_posting, rejection, Point, with_point, new_point, update_check, Left, left_by, update_left, Updates}
-use Rattle.reparse_update.specs.Steps.{Posted, Posts, Clears}
+use Rattle.reparse_update.specs.Update.{given_tag, given_length, given_data, is_laid_out, is_delete, given_check, point_change, point_posting, Point, with_point, new_point, update_check, Left, left_by, Updates}
+use Rattle.reparse_update.specs.Steps.{Posts}
 use Rattle.reparse_update.proofs.Input.{parts-of}
-use Rattle.reparse_update.proofs.Checked.{never-zero, never-rejected}
-
--- no post is rejected with the status of a success
-not-rejected : (d : Verdict) → Never Success (rejection d) → number (verdict_status d) ≡ 0 → rejection d ≡ none
-not-rejected Skip n e = refl
-not-rejected (Reject x) n e = absurd (never-zero x n e)
-not-rejected Accept n e = refl
 
 -- ---- the call's own checks
 
 -- they leave an input that is laid out, and a store for any data
-pub given-facts : (u : Update) (f : FileRecord) (n : ℕ) (input : List ℕ) → given_check u f n input ≡ none → (is_laid_out input ≡ true) × (16376 ≤ n)
+pub given-facts : (u : Update) (f : FileRecord) (n : ℕ) (input : List ℕ) → given_check u f n input ≡ None → (is_laid_out input ≡ true) × (16376 ≤ n)
 unfolding given_check good_point
 given-facts u f n input e =
     let k = else-none (unless (good_point f n) FileCorruptError) _ e in
@@ -51,8 +40,9 @@ given-facts u f n input e =
     let l = unless-true (is_laid_out input && (not (is_delete u) || eqb (given_length input) 0)) IoReparseDataInvalid (else-left _ _ k.1) in
     (and_left (is_laid_out input) _ l, leb-true _ _ (and_left (leb 16376 n) _ g))
 
-pub passed-facts : (u : Update) (v : Volume) (f : FileRecord) (n : ℕ) (input : List ℕ) → else (points_check v) (given_check u f n input) ≡ none → (is_laid_out input ≡ true) × (16376 ≤ n)
-passed-facts u v f n input e = given-facts u f n input (else-right (points_check v) (given_check u f n input) e)
+pub passed-facts : (u : Update) (v : Volume) (f : FileRecord) (n : ℕ) (input : List ℕ)
+    → Ok tt ≡ judged (else (points_check v) (given_check u f n input)) → (is_laid_out input ≡ true) × (16376 ≤ n)
+passed-facts u v f n input e = given-facts u f n input (else-right (points_check v) (given_check u f n input) (told-passed _ e))
 
 -- the data, which the code takes from behind the header
 module _ (input : List ℕ) (head : ℕ) (h : head ≡ header_length (given_tag input)) where
@@ -73,22 +63,6 @@ module _ (input : List ℕ) (head : ℕ) (h : head ≡ header_length (given_tag 
   -- and is copied to its start
   pub data-put : (store kept : List ℕ) → kept ≡ taken ++ drop (length taken) store → kept ≡ given_data input ++ drop (length (given_data input)) store
   data-put store kept e = e ∙ ap (λ (x : List ℕ). x ++ drop (length x) store) data_is
-
--- ---- what the post leaves of the file's record
-
-module _ (v : Volume) (ring : List ℕ) (f : FileRecord) (c : Change) (name : List ℕ) (r : Updated) (after : List ℕ) (posts : Posts v ring f c name r after) where
-  -- where it is refused, all
-  pub refused-file : (number r.status ≡ 0 → ⊥) → r.file ≡ f
-  refused-file n = go (verdict v ring (point_change c) name) posts.journal.status posts.file
-    where
-      go : (d : Verdict) → r.status ≡ verdict_status d → r.file ≡ with_point f (leaves d f.usn (end_of v name)) f.tag f.guid f.length → r.file ≡ f
-      go Skip s g = absurd (n (ap number s))
-      go (Reject x) s g = g
-      go Accept s g = absurd (n (ap number s))
-
-  -- else all but the Usn
-  pub pointed : (tag : ℕ) (guid : List ℕ) (n : ℕ) → with_point r.file r.file.usn tag guid n ≡ with_point f (post_usn v ring (point_change c) name f.usn) tag guid n
-  pointed tag guid n = ap (λ (x : FileRecord). with_point x x.usn tag guid n) posts.file
 
 -- ---- the call
 
@@ -112,46 +86,52 @@ module _ (u : Update) (v : Volume) (ring : List ℕ) (f : FileRecord) (store : L
   abbrev left : Option Status → Left
   left o = left_by o j p (after_post j (point_posting q)) (new_point u p usn input)
 
+  by_check : (o : Option Status) → update_check u j p q input ≡ o
+      → (r : Result (Unit {0}) Status) (w : Volume) (after : List ℕ) (g : FileRecord) (kept : List ℕ)
+      → r ≡ judged o → w ≡ (left o).journal.volume → after ≡ (left o).journal.ring → g ≡ (left o).point.file → kept ≡ (left o).point.store
+      → Updates u j p q input r w after g kept
+  by_check o e r w after g kept a b i k s =
+      record {
+        given = a ∙ ap judged (sym e);
+        volume = b ∙ ap (λ (x : Option Status). (left x).journal.volume) (sym e);
+        ring = i ∙ ap (λ (x : Option Status). (left x).journal.ring) (sym e);
+        file = k ∙ ap (λ (x : Option Status). (left x).point.file) (sym e);
+        store = s ∙ ap (λ (x : Option Status). (left x).point.store) (sym e);
+      }
+
   -- a refusal by its own checks
-  pub refused-check : (x : Status) → else (points_check v) (given_check u f (length store) input) ≡ some x → update_check u j p q input ≡ some x
+  refused-check : (x : Status) → else (points_check v) (given_check u f (length store) input) ≡ Some x → update_check u j p q input ≡ Some x
   unfolding update_check
   refused-check x e = both-refuse (points_check v) (given_check u f (length store) input) (rejection d) x e
 
-  pub check-refuses : (x : Status) → else (points_check v) (given_check u f (length store) input) ≡ some x
-      → Updates (update_left u j p q input) (record { status = x; volume = v; file = f }) ring store
+  pub check-refuses : (x : Status) → Err x ≡ judged (else (points_check v) (given_check u f (length store) input))
+      → Updates u j p q input (Err x) v ring f store
   check-refuses x e =
-      subst (λ (o : Option Status). Updates (left o) (record { status = x; volume = v; file = f }) ring store) (sym (refused-check x e))
-      (record { status = refl; volume = refl; ring = refl; file = refl; store = refl })
+      by_check (Some x) (refused-check x (told-refused _ x e)) (Err x) v ring f store refl refl refl refl refl
 
-  module _ (passed : else (points_check v) (given_check u f (length store) input) ≡ none) (r : Updated) (after : List ℕ) (posted : Posted v ring f c name r after) where
+  module _ (passed : Ok tt ≡ judged (else (points_check v) (given_check u f (length store) input)))
+      (r : Result (Unit {0}) Status) (w : Volume) (after : List ℕ)
+      (g : FileRecord) (posts : Posts v ring f c name r w after g) where
     -- its own checks pass: the post decides
     decides : update_check u j p q input ≡ rejection d
     unfolding update_check
-    decides = both-pass (points_check v) (given_check u f (length store) input) (rejection d) passed
+    decides = both-pass (points_check v) (given_check u f (length store) input) (rejection d) (told-passed _ passed)
 
     -- a post that is refused leaves all as it was
-    pub post-refuses : (number r.status ≡ 0 → ⊥) → r.file ≡ f → Updates (update_left u j p q input) r after store
-    post-refuses n g = subst (λ (o : Option Status). Updates (left o) r after store) (sym decides) (go d posted.status posted.volume posted.written)
+    pub post-refuses : (x : Status) → r ≡ Err x → Updates u j p q input (Err x) w after g store
+    post-refuses x e = go d (told-refused _ x (sym e ∙ posts.given)) posts.volume posts.written posts.file
       where
-        go : (d : Verdict) → r.status ≡ verdict_status d → r.volume ≡ leaves d v (posted_volume v ring name) → after ≡ leaves d ring (posted_ring v ring (point_change c) name)
-            → Updates (left (rejection d)) r after store
-        go Skip s w k = absurd (n (ap number s))
-        go (Reject x) s w k = record { status = s; volume = w; ring = k; file = g; store = refl }
-        go Accept s w k = absurd (n (ap number s))
+        go : (k : Verdict) → rejection k ≡ Some x → w ≡ leaves k v (posted_volume v ring name)
+            → after ≡ leaves k ring (posted_ring v ring (point_change c) name)
+            → g ≡ with_point f (leaves k f.usn (end_of v name)) f.tag f.guid f.length → Updates u j p q input (Err x) w after g store
+        go Skip h a b t = cc
+        go (Reject y) h a b t = by_check (Some x) (decides ∙ told-refused _ x (sym e ∙ posts.given)) (Err x) w after g store refl a b t refl
+        go Accept h a b t = cc
 
-    -- one that is not refused leaves the new point
-    pub post-takes : number r.status ≡ 0 → (g : FileRecord) (kept : List ℕ) → g ≡ (new_point u p usn input).file → kept ≡ (new_point u p usn input).store
-        → Updates (update_left u j p q input) (record { status = r.status; volume = r.volume; file = g }) after kept
-    post-takes s g kept e k =
-        let o : update_check u j p q input ≡ none = decides ∙ not-rejected d (never-rejected v ring (point_change c) name) (sym (ap number posted.status) ∙ s) in
-        subst (λ (o : Option Status). Updates (left o) (record { status = r.status; volume = r.volume; file = g }) after kept) (sym o)
-        (record { status = same-status r.status Success s; volume = posted.volume; ring = posted.written; file = e; store = k })
-
--- a delete whose own checks pass, by what clearing the point leaves
-pub clears-so : (v : Volume) (ring : List ℕ) (f : FileRecord) (store : List ℕ) (c : Change) (name input : List ℕ) → else (points_check v) (given_check Delete f (length store) input) ≡ none
-    → (r : Updated) (after : List ℕ) → Clears v ring f c name r after → Updates (update_left Delete (record { volume = v; ring = ring }) (record { file = f; store = store }) (record { change = c; name = name }) input) r after store
-clears-so v ring f store c name input passed r after k = go (eqb (number r.status) 0) refl
-  where
-    go : (b : Bool) → eqb (number r.status) 0 ≡ b → Updates (update_left Delete (record { volume = v; ring = ring }) (record { file = f; store = store }) (record { change = c; name = name }) input) r after store
-    go true e = let z = eqb-true _ _ e in post-takes Delete v ring f store c name input passed r after k.journal z r.file store (k.cleared z) refl
-    go false e = let z = eqb-false _ _ e in post-refuses Delete v ring f store c name input passed r after k.journal z (k.kept z)
+    -- one that is not refused leaves the new point, and the file's Usn from the post
+    pub post-takes : r ≡ Ok tt → (tag : ℕ) (guid : List ℕ) (n : ℕ) (kept : List ℕ)
+        → with_point f usn tag guid n ≡ (new_point u p usn input).file → kept ≡ (new_point u p usn input).store
+        → Updates u j p q input (Ok tt) w after (with_point g g.usn tag guid n) kept
+    post-takes e tag guid n kept a b =
+        by_check None (decides ∙ told-passed _ (sym e ∙ posts.given)) (Ok tt) w after (with_point g g.usn tag guid n) kept refl
+        posts.volume posts.written (ap (λ (x : FileRecord). with_point x x.usn tag guid n) posts.file ∙ a) b

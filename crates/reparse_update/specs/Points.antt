@@ -1,6 +1,5 @@
 -- What setting and deleting a reparse point come to: what a get replies then, and what the post decides.
-use Rattle.std.specs.Prelude.{◌≡◌, List, ℕ, ◌≤◌, ◌<◌, length, take}
-use Rattle.std.proofs.Math.Option.{none}
+use Rattle.std.specs.Prelude.{◌≡◌, List, ℕ, ◌≤◌, ◌<◌, length, take, None}
 use Rattle.le.specs.Bytes.{Bytes}
 use Rattle.status.specs.declared.Status.{Status}
 use Rattle.status.specs.declared.Status.TheVariants.{Success, BufferTooSmall, NotAReparsePoint}
@@ -21,12 +20,12 @@ pub record SucceedsWith (u : Update) (j : Journal) (p : Point) (q : Posting) (in
 
 -- a get of it, on a volume that supports reparse points and their controls, replies so
 abbrev pub Gets : Point → ℕ → Reply → Type 0
-Gets p room reply = (w : Volume) → points_check w ≡ none → reparse_reply w p.file p.store room ≡ reply
+Gets p room reply = (w : Volume) → points_check w ≡ None → reparse_reply w p.file p.store room ≡ reply
 
 -- a call that its own checks let pass
 pub record Passes (u : Update) (j : Journal) (p : Point) (input : List ℕ) : Type 0 where
-  pub supported : points_check j.volume ≡ none
-  pub given : given_check u p.file (length p.store) input ≡ none
+  pub supported : points_check j.volume ≡ None
+  pub given : given_check u p.file (length p.store) input ≡ None
 
 pub record Points : Type 0 where
   -- after a set: the bytes that were set, as many as have room
@@ -55,4 +54,4 @@ pub record Points : Type 0 where
       → update_left u j p q input ≡ record { status = Success; journal = after_post j (point_posting q); point = new_point u p (end_of j.volume q.name) input }
   -- the volume record that either leaves still supports them
   pub supports : (u : Update) (j : Journal) (p : Point) (q : Posting) (input : List ℕ) → (update_left u j p q input).status ≡ Success
-      → points_check (update_left u j p q input).journal.volume ≡ none
+      → points_check (update_left u j p q input).journal.volume ≡ None

@@ -1,20 +1,17 @@
 -- FSCTL_SET_REPARSE_POINT and FSCTL_DELETE_REPARSE_POINT: what each answers and leaves.
-use Rattle.std.specs.Prelude.{◌≡◌, Bool, true, false, not, cond, ◌&&◌, ◌||◌, List, ◌++◌, ℕ, ◌+◌, leb, eqb, length, take, drop, replicate}
-use Rattle.std.proofs.Math.Option.{Option, none, some}
+use Rattle.std.specs.Prelude.{◌≡◌, Bool, true, false, not, cond, ◌&&◌, ◌||◌, List, ◌++◌, ℕ, ◌+◌, leb, eqb, length, take, drop, replicate, Option, None, Some, Result}
 use Rattle.le.specs.Numbers.{unle, number_at}
 use Rattle.status.specs.declared.Status.{Status}
 use Rattle.status.specs.declared.Status.TheVariants.{Success, FileCorruptError, NotAReparsePoint, IoReparseTagInvalid, IoReparseTagMismatch, IoReparseDataInvalid, ReparseAttributeConflict}
-use Rattle.status.specs.Check.{unless, else}
+use Rattle.status.specs.Check.{unless, else, judged}
+use Rattle.volume.specs.declared.Volume.{Volume}
 use Rattle.file_record.specs.declared.FileRecord.{FileRecord}
 use Rattle.journal_post.specs.declared.Change.{Change}
-use Rattle.journal_post.specs.declared.Verdict.{Verdict}
-use Rattle.journal_post.specs.declared.Verdict.TheVariants.{Skip, Reject, Accept}
-use Rattle.journal_post.specs.Post.{verdict, post_usn}
+use Rattle.journal_post.specs.Post.{verdict, rejection, post_usn}
 use Rattle.journal_post.specs.Posts.{Journal, Posting, after_post}
 use Rattle.reparse_point.specs.Reparse.{is_microsoft, header_length, points_check, good_point}
 use Rattle.reparse_update.specs.declared.Update.{Update}
 use Rattle.reparse_update.specs.declared.Update.TheVariants.{Set, Delete}
-use Rattle.reparse_update.specs.declared.Updated.{Updated}
 
 -- ---- the input, in either layout: tag, length of the data, Reserved, the GUID where the tag is not Microsoft's, and the data
 
@@ -87,12 +84,6 @@ point_change c =
 abbrev pub point_posting : Posting → Posting
 point_posting q = record { change = point_change q.change; name = q.name }
 
--- a post that is rejected refuses the call; one that is skipped does not
-abbrev pub rejection : Verdict → Option Status
-rejection Skip = none
-rejection (Reject x) = some x
-rejection Accept = none
-
 -- ---- what is left of the file
 
 -- a file's record, and the store of its reparse data
@@ -140,8 +131,8 @@ pub record Left : Type 0 where
 
 -- a refusal leaves all as it was
 abbrev pub left_by : Option Status → Journal → Point → Journal → Point → Left
-left_by none j p k new = record { status = Success; journal = k; point = new }
-left_by (some x) j p k new = record { status = x; journal = j; point = p }
+left_by None j p k new = record { status = Success; journal = k; point = new }
+left_by (Some x) j p k new = record { status = x; journal = j; point = p }
 
 -- the post, and the file's Usn from it
 abbrev pub update_left : Update → Journal → Point → Posting → List ℕ → Left
@@ -149,10 +140,11 @@ update_left u j p q input =
     let usn = post_usn j.volume j.ring (point_change q.change) q.name p.file.usn in
     left_by (update_check u j p q input) j p (after_post j (point_posting q)) (new_point u p usn input)
 
--- a call that gave r, and left this ring and this store, did so
-pub record Updates (l : Left) (r : Updated) (ringNow storeNow : List ℕ) : Type 0 where
-  pub status : r.status ≡ l.status
-  pub volume : r.volume ≡ l.journal.volume
-  pub ring : ringNow ≡ l.journal.ring
-  pub file : r.file ≡ l.point.file
-  pub store : storeNow ≡ l.point.store
+-- a call that gave r, and left these records, this ring and this store, did so
+pub record Updates (u : Update) (j : Journal) (p : Point) (q : Posting) (input : List ℕ) (r : Result (Unit {0}) Status)
+    (v : Volume) (ringNow : List ℕ) (f : FileRecord) (storeNow : List ℕ) : Type 0 where
+  pub given : r ≡ judged (update_check u j p q input)
+  pub volume : v ≡ (update_left u j p q input).journal.volume
+  pub ring : ringNow ≡ (update_left u j p q input).journal.ring
+  pub file : f ≡ (update_left u j p q input).point.file
+  pub store : storeNow ≡ (update_left u j p q input).point.store

@@ -3,7 +3,7 @@
 use mathlib.Core.Path.{◌≡◌, refl, sym, ap, ap₂, ◌∙◌, subst}
 use mathlib.Core.Logic.{◌⊎◌, inl, inr}
 use mathlib.Core.Bool.{Bool, true, false, cond, or-true}
-use mathlib.Core.Option.{Option, some}
+use Rattle.std.specs.Prelude.{Option, Some}
 use mathlib.Core.List.Memᴰ
 use mathlib.Core.List.{List, [], ◌∷◌, ◌++◌, map, Memᴰ}
 use Prim.Native.Nat.{ℕ, ◌^◌, ◌≤◌, ◌<◌}
@@ -134,11 +134,11 @@ base_kept h (p ∷ ps) = base_kept (note_post h p) ps ∙ by (is_posted h p.chan
     by false = refl
 
 -- it begins at the image's first position
-loaded-base : (v : Volume) (n : ℕ) (s : List ℕ) (id : ℕ) (i : Image) (h : History) → stored s ≡ some i → opening v n (load s id) ≡ some h → h.base ≡ i.first
+loaded-base : (v : Volume) (n : ℕ) (s : List ℕ) (id : ℕ) (i : Image) (h : History) → stored s ≡ Some i → opening v n (load s id) ≡ Some h → h.base ≡ i.first
 unfolding opened
 loaded-base v n s id i h e o =
     let ps : List Posting = map posting_of i.records in
-    let z : some (note_posts (opened v n i.first id) ps) ≡ some h = ap (λ (x : Option Image). opened_by v n (load_effect id x)) (sym e) ∙ o in
+    let z : Some (note_posts (opened v n i.first id) ps) ≡ Some h = ap (λ (x : Option Image). opened_by v n (load_effect id x)) (sym e) ∙ o in
     let y : note_posts (opened v n i.first id) ps ≡ h = cc in
     ap (λ (x : History). x.base) (sym y) ∙ base_kept (opened v n i.first id) ps
 
@@ -154,14 +154,14 @@ usable-live j h m u = m.live (by h.live refl)
 
 module _ (k : Journal) (g : History) (m : Sim k g) (d : Reader) (stood : Stand g d)
     (s : List ℕ) (b : Bytes s) (t : TypedJournal k.volume k.ring) (a : SavedAs k.volume k.ring s)
-    (w : Journal) (id : ℕ) (n : History) (e : status_of w (load s id) ≡ Success) (o : opening w.volume (length w.ring) (load s id) ≡ some n) where
+    (w : Journal) (id : ℕ) (n : History) (e : status_of w (load s id) ≡ Success) (o : opening w.volume (length w.ring) (load s id) ≡ Some n) where
   abbrev i : Image
   i = content k.volume k.ring
 
   abbrev back : Journal
   back = next w (load s id)
 
-  held : stored s ≡ some i
+  held : stored s ≡ Some i
   held = saved-stored k.volume k.ring s t a
 
   passed : Passed w.volume (length w.ring) id i

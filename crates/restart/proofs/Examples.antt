@@ -3,7 +3,7 @@
 use mathlib.Core.Path.{◌≡◌, refl, ap, subst}
 use mathlib.Core.Logic.{inl}
 use mathlib.Core.List.{List, [], ◌∷◌, ◌++◌, map}
-use mathlib.Core.Option.{Option, none, some}
+use Rattle.std.specs.Prelude.{Option, None, Some}
 use Prim.Native.Nat.{ℕ}
 use native.Mathlib.Omega.{arith}
 use lib.Dec.{lit<}
@@ -155,7 +155,7 @@ calls-leave : record { volume = saved; ring = ring } ≡ runs (next blank (creat
 unfolding ring verdict post_check posted_name posted_volume posted_ring oldest placed rotated sound good_marks good_capacity good_position kept kept_bytes records records_in good_name good_units good_unit layout encode le unle chained
 calls-leave = refl
 
-loaded-opens : opening idle 1024 (load one_bytes 8) ≡ some loaded_history
+loaded-opens : opening idle 1024 (load one_bytes 8) ≡ Some loaded_history
 loaded-opens = ap (λ (o : Option Image). opened_by idle 1024 (load_effect 8 o)) one-stored
 
 -- the record of the post, alone, under its old Usn
@@ -222,21 +222,21 @@ volume_in support state =
 
 abbrev pub checks : List Check
 checks =
-    record { support = 1; state = 0; buffer = 1024; image = one_bytes; id = 8; says = none }
+    record { support = 1; state = 0; buffer = 1024; image = one_bytes; id = 8; says = None }
     -- an id that is the image's, 0 or the volume's last one
-    ∷ record { support = 1; state = 0; buffer = 1024; image = one_bytes; id = 7; says = some InvalidParameter }
-    ∷ record { support = 1; state = 0; buffer = 1024; image = one_bytes; id = 0; says = some InvalidParameter }
-    ∷ record { support = 1; state = 0; buffer = 1024; image = one_bytes; id = 3; says = some InvalidParameter }
+    ∷ record { support = 1; state = 0; buffer = 1024; image = one_bytes; id = 7; says = Some InvalidParameter }
+    ∷ record { support = 1; state = 0; buffer = 1024; image = one_bytes; id = 0; says = Some InvalidParameter }
+    ∷ record { support = 1; state = 0; buffer = 1024; image = one_bytes; id = 3; says = Some InvalidParameter }
     -- no support, being deleted, active
-    ∷ record { support = 0; state = 0; buffer = 1024; image = one_bytes; id = 8; says = some InvalidDeviceRequest }
-    ∷ record { support = 1; state = 2; buffer = 1024; image = one_bytes; id = 8; says = some JournalDeleteInProgress }
-    ∷ record { support = 1; state = 1; buffer = 1024; image = one_bytes; id = 8; says = some InvalidParameter }
+    ∷ record { support = 0; state = 0; buffer = 1024; image = one_bytes; id = 8; says = Some InvalidDeviceRequest }
+    ∷ record { support = 1; state = 2; buffer = 1024; image = one_bytes; id = 8; says = Some JournalDeleteInProgress }
+    ∷ record { support = 1; state = 1; buffer = 1024; image = one_bytes; id = 8; says = Some InvalidParameter }
     -- form 3, form 2 with records of version 2, 31 bytes, another sum, another length of the buffer
-    ∷ record { support = 1; state = 0; buffer = 1024; image = set one_bytes 92 3; id = 8; says = some UnknownRevision }
-    ∷ record { support = 1; state = 0; buffer = 1024; image = set one_bytes 92 2; id = 8; says = some FileCorruptError }
-    ∷ record { support = 1; state = 0; buffer = 1024; image = take 31 one_bytes; id = 8; says = some FileCorruptError }
-    ∷ record { support = 1; state = 0; buffer = 1024; image = set one_bytes 88 9; id = 8; says = some FileCorruptError }
-    ∷ record { support = 1; state = 0; buffer = 1016; image = one_bytes; id = 8; says = some FileCorruptError }
+    ∷ record { support = 1; state = 0; buffer = 1024; image = set one_bytes 92 3; id = 8; says = Some UnknownRevision }
+    ∷ record { support = 1; state = 0; buffer = 1024; image = set one_bytes 92 2; id = 8; says = Some FileCorruptError }
+    ∷ record { support = 1; state = 0; buffer = 1024; image = take 31 one_bytes; id = 8; says = Some FileCorruptError }
+    ∷ record { support = 1; state = 0; buffer = 1024; image = set one_bytes 88 9; id = 8; says = Some FileCorruptError }
+    ∷ record { support = 1; state = 0; buffer = 1016; image = one_bytes; id = 8; says = Some FileCorruptError }
     ∷ []
 
 pub checks-right : map (λ (e : Check). record {
@@ -251,6 +251,6 @@ unfolding load_check form_check form_version fit_check good_capacity good_positi
 checks-right = refl
 
 -- records that span 1,032 bytes, under a new id and under 0: the id is checked first
-pub fits-right : map (λ (id : ℕ). fit_check idle 1024 id 7 1032) (8 ∷ 0 ∷ []) ≡ some DiskFull ∷ some InvalidParameter ∷ []
+pub fits-right : map (λ (id : ℕ). fit_check idle 1024 id 7 1032) (8 ∷ 0 ∷ []) ≡ Some DiskFull ∷ Some InvalidParameter ∷ []
 unfolding fit_check good_capacity
 fits-right = refl

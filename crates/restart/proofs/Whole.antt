@@ -2,7 +2,8 @@
 -- Assumes nothing.
 use mathlib.Core.Path.{◌≡◌, refl, sym, ap, ap₂, ◌∙◌, subst, subst₂}
 use mathlib.Core.Bool.{true, not}
-use mathlib.Core.Option.{Option, none, some}
+use Rattle.std.specs.Prelude.{Option, None, Some}
+use Rattle.std.proofs.lemmas.Option.{none-some}
 use mathlib.Core.List.{List}
 use Prim.Native.Nat.{ℕ, ◌+◌, ◌*◌, ◌<◌}
 use native.Mathlib.Omega.{arith}
@@ -13,9 +14,8 @@ use Rattle.le.proofs.Runs.{and_left}
 use Rattle.status.specs.declared.Status.{Status}
 use Rattle.status.specs.declared.Status.TheVariants.{Success}
 use Rattle.volume.specs.declared.Volume.{Volume}
-use Rattle.volume.specs.declared.Outcome.{Outcome}
 use Rattle.volume.specs.State.{is_active, good_capacity}
-use Rattle.volume.specs.Calls.{performed}
+use Rattle.volume.specs.Calls.{Outcome, performed}
 use Rattle.usn_record.specs.declared.Version.{Version}
 use Rattle.journal.specs.Kept.{good_marks, sound, kept}
 use Rattle.journal.proofs.Boundaries.{sound-facts, marks-facts}
@@ -27,8 +27,8 @@ use Rattle.image.proofs.RoundTrip.{Storable}
 use Rattle.image.proofs.Cut as cutting
 use Rattle.image.proofs.OneWord.{one_word}
 use Rattle.image.proofs.Saving.{kept-storable, kept-end}
-use Rattle.image.proofs.Forms.{none-some, read-stored, stored-read, form-passes, stored-none}
-use Rattle.image_judge.specs.Steps.{marks_of}
+use Rattle.image.proofs.Forms.{read-stored, stored-read, form-passes, stored-none}
+use Rattle.image_judge.specs.Judge.{marks_of}
 use Rattle.image_save.specs.Save.{content}
 use Rattle.image_save.proofs.Saving.{saved-image, saved-back}
 use Rattle.image_load.specs.Load.{load_check, restored, settled, load_outcome, load_ring}
@@ -45,40 +45,40 @@ clash z = absurd (omega arith)
 -- ---- what an image holds
 
 -- what loads holds something
-loads-stored : (v : Volume) (ring s : List ℕ) (id : ℕ) → Loads v ring s id → (i : Image) × (stored s ≡ some i)
+loads-stored : (v : Volume) (ring s : List ℕ) (id : ℕ) → Loads v ring s id → (i : Image) × (stored s ≡ Some i)
 loads-stored v ring s id e = by (stored s) refl
   where
-    by : (o : Option Image) → stored s ≡ o → (i : Image) × (stored s ≡ some i)
-    by none q =
+    by : (o : Option Image) → stored s ≡ o → (i : Image) × (stored s ≡ Some i)
+    by None q =
         let c = load-succeeds v (length ring) s id (restored (record { volume = v; ring = ring }) id (stored s)).volume e in
-        let z : some (load-none v (length ring) s id q).0 ≡ none = sym (load-none v (length ring) s id q).1 ∙ c in
+        let z : Some (load-none v (length ring) s id q).0 ≡ None = sym (load-none v (length ring) s id q).1 ∙ c in
         clash cc
-    by (some i) q = (i, q)
+    by (Some i) q = (i, q)
 
-pub saved-stored : (v : Volume) (ring s : List ℕ) → TypedJournal v ring → SavedAs v ring s → stored s ≡ some (content v ring)
+pub saved-stored : (v : Volume) (ring s : List ℕ) → TypedJournal v ring → SavedAs v ring s → stored s ≡ Some (content v ring)
 saved-stored v ring s t (form, room, e) =
     let k = saved-image v ring form room s e in
     read-stored k.version s (content v ring) (saved-back v ring form s k t.0 t.1)
 
-moves-stored : (from : ℕ) (s t : List ℕ) → MovedTo from s t → (i : Image) × (stored s ≡ some i)
+moves-stored : (from : ℕ) (s t : List ℕ) → MovedTo from s t → (i : Image) × (stored s ≡ Some i)
 moves-stored from s t m = let k = moved-so from s t m in (k.image, read-stored k.version s k.image k.read)
 
-image-stored : (s : List ℕ) → IsImage s → (i : Image) × (stored s ≡ some i)
+image-stored : (s : List ℕ) → IsImage s → (i : Image) × (stored s ≡ Some i)
 image-stored s (loads v ring id e) = loads-stored v ring s id e
 image-stored s (moves from t m) = moves-stored from s t m
 image-stored s (saved v ring t w) = (content v ring, saved-stored v ring s t w)
 image-stored s (moved from r b m) = let k = (moving.moves).keeps from r s b m in (k.image, k.held.1)
 
 -- what is read in neither form is never taken
-none-taken : (s : List ℕ) → ((v : Version) → read_image v s ≡ none) → NeverTaken s
+none-taken : (s : List ℕ) → ((v : Version) → read_image v s ≡ None) → NeverTaken s
 none-taken s n =
     record {
       loads = λ v ring id e. let k = loads-stored v ring s id e in held k.0 k.1;
       moves = λ from t m. let k = moves-stored from s t m in held k.0 k.1;
     }
   where
-    held : (i : Image) → stored s ≡ some i → ⊥
-    held i e = let z : none ≡ some i = sym (stored-none s n) ∙ e in none-some i z
+    held : (i : Image) → stored s ≡ Some i → ⊥
+    held i e = none-some i (sym (stored-none s n) ∙ e)
 
 -- ---- cut, or with another word
 
@@ -100,7 +100,7 @@ word-never s t k b c e d =
 -- ---- moved
 
 -- what holds the same loads the same
-same_check : (v : Volume) (n : ℕ) (s t : List ℕ) (id : ℕ) (i : Image) → stored s ≡ some i → stored t ≡ some i → load_check v n t id ≡ load_check v n s id
+same_check : (v : Volume) (n : ℕ) (s t : List ℕ) (id : ℕ) (i : Image) → stored s ≡ Some i → stored t ≡ Some i → load_check v n t id ≡ load_check v n s id
 unfolding load_check
 same_check v n s t id i e k = rw (form-passes s i e, form-passes t i k, e, k) refl
 
@@ -124,7 +124,7 @@ module _ (v : Volume) (ring s : List ℕ) (t : TypedJournal v ring) (a : SavedAs
   whole : sound v ring ≡ true
   whole = (saved-image v ring a.0 a.1 s a.2).whole
 
-  held : stored s ≡ some i
+  held : stored s ≡ Some i
   held = saved-stored v ring s t a
 
   end : last_from v.first (kept v ring) ≡ v.last
@@ -135,13 +135,13 @@ module _ (v : Volume) (ring s : List ℕ) (t : TypedJournal v ring) (a : SavedAs
 
   -- where nothing refuses it
   module _ (p : Passed w (length other) id i) where
-    check : load_check w (length other) s id ≡ none
+    check : load_check w (length other) s id ≡ None
     check = passed-check w (length other) s id i held p
 
-    outcome-is : load_outcome w other s id ≡ record { status = Success; volume = (restored before id (some i)).volume }
+    outcome-is : load_outcome w other s id ≡ record { status = Success; volume = (restored before id (Some i)).volume }
     outcome-is = ap₂ (λ (c : Option Status) (o : Option Image). performed c w (restored before id o).volume) check held
 
-    ring-is : load_ring w other s id ≡ (restored before id (some i)).ring
+    ring-is : load_ring w other s id ≡ (restored before id (Some i)).ring
     ring-is = ap₂ (λ (c : Option Status) (o : Option Image). settled c other (restored before id o).ring) check held
 
     storable : Storable i

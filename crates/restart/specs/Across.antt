@@ -1,6 +1,5 @@
 -- What a reader finds after a restart: it goes on in the history that the load of the saved journal opens, as if there had been none.
-use Rattle.std.specs.Prelude.{◌≡◌, List, ◌++◌, map, true, ℕ, length}
-use Rattle.std.proofs.Math.Option.{some}
+use Rattle.std.specs.Prelude.{◌≡◌, List, ◌++◌, map, true, ℕ, length, Some}
 use Rattle.le.specs.Bytes.{Bytes}
 use Rattle.status.specs.declared.Status.TheVariants.{Success, JournalEntryDeleted}
 use Rattle.journal_page.specs.declared.Filter.{Filter}
@@ -30,7 +29,7 @@ pub record GoesOn (g : History) (d : Reader) (k : Journal) (n : History) : Type 
 abbrev pub Across : Type 0
 Across =
     (j : Journal) (c : Call) (h : History) → status_of j c ≡ Success
-    → opening j.volume (length j.ring) c ≡ some h
+    → opening j.volume (length j.ring) c ≡ Some h
     → (before : List Call) (ts : List Turn) (start : ℕ) (f : Filter)
     → Typed c
     → AllTyped (before ++ map call_of ts)
@@ -42,5 +41,5 @@ Across =
     TypedJournal saved.volume saved.ring
     → (s : List ℕ) → Bytes s → SavedAs saved.volume saved.ring s
     → (w : Journal) (id : ℕ) (n : History) → status_of w (load s id) ≡ Success
-    → opening w.volume (length w.ring) (load s id) ≡ some n
+    → opening w.volume (length w.ring) (load s id) ≡ Some n
     → GoesOn (notes h (before ++ map call_of ts)) (follow (runs (next j c) before) (fresh start f) ts) (next w (load s id)) n

@@ -5,7 +5,7 @@ use Rattle.le.specs.Bytes.{Bytes}
 use Rattle.status.specs.declared.Status.TheVariants.{Success}
 use Rattle.status.specs.Reply.{give}
 use Rattle.volume.specs.declared.Volume.{Volume}
-use Rattle.volume.specs.declared.Outcome.{Outcome}
+use Rattle.volume.specs.Calls.{Outcome}
 use Rattle.volume.specs.State.{supported, is_active, is_deleting}
 use Rattle.journal.specs.Kept.{kept}
 use Rattle.image_save.specs.Save.{save_reply}

@@ -5,10 +5,7 @@ ghost use Rattle.std.specs.Prelude.{length, ◌*◌, ◌≤◌, ◌<◌};
 
 use case_rows::{print, print_number};
 use image_file::{close, create_fresh, remove, store};
-use list_input::Input;
 use program_io::fail;
-use reply_walker::Walk;
-use status::Status;
 use std::random::RandomSource;
 use std::rt::Files;
 use update_steps::{
@@ -49,17 +46,6 @@ fn take_name(rt: &(impl Files + RandomSource + Eprint), name: &mut [u8]) -> bool
     }
 }
 
-// Reads the file into `image`, and says how many bytes it has; 0 if that failed.
-fn fetch(rt: &(impl Files + Eprint), name: &[u8], image: &mut [u8]) -> usize
-    ensures { result ≤ length image.old }
-{
-    let input = image_file::fetch(rt, name, image);
-    match input {
-        Input::Bytes(n) => n,
-        Input::Failed => 0,
-    }
-}
-
 // ---- The server.
 
 // Saves the journal under a name.
@@ -85,16 +71,10 @@ fn save(
     true
 }
 
-// 1 if an image is refused, 0 if it is loaded.
-fn refusal(v: Volume, ring: &mut [u8], image: &[u8]) -> usize
-    ensures { result ≤ 1 }
-{
-    let o = image_load::load_journal(v, ring, image, NEXT_ID);
-    let s = o.status;
-    match s {
-        Status::Success => 0,
-        _ => 1,
-    }
+// Whether an image is refused. The volume record that it is offered stays as it is.
+fn is_refused(v: Volume, ring: &mut [u8], image: &[u8]) -> bool {
+    let mut w = v;
+    image_load::load_journal(&mut w, ring, image, NEXT_ID).is_err()
 }
 
 // How many parts of the image are refused: it is cut at each of its bytes.
@@ -102,24 +82,22 @@ fn refused_parts(v: Volume, ring: &mut [u8], image: &[u8]) -> usize
     ensures { result ≤ length image.now }
 {
     let mut refused = 0;
-    let mut n = 0;
-    while n < image.len() {
-        refused += refusal(v, ring, &image[..n]);
-        n += 1;
+    for n in 0..image.len() {
+        if is_refused(v, ring, &image[..n]) {
+            refused += 1;
+        }
     }
     refused
 }
 
-// 1 if the image is refused with some bits of a byte turned over, 0 if it is loaded. It is left as it was.
-fn refusal_changed(v: Volume, ring: &mut [u8], image: &mut [u8], at: usize, bits: u8) -> usize
+// Whether the image is refused with some bits of a byte turned over. It is left as it was.
+fn is_refused_changed(v: Volume, ring: &mut [u8], image: &mut [u8], at: usize, bits: u8) -> bool
     requires { at < length image.old }
-    ensures { result ≤ 1 }
 {
-    let old = image[at];
-    image[at] = old ^ bits;
-    let n = refusal(v, ring, image);
-    image[at] = old;
-    n
+    image[at] ^= bits;
+    let refused = is_refused(v, ring, image);
+    image[at] ^= bits;
+    refused
 }
 
 // How many images are refused that differ from this one in one bit.
@@ -128,10 +106,10 @@ fn refused_changes(v: Volume, ring: &mut [u8], image: &mut [u8]) -> usize
     ensures { result ≤ 8 * length image.old }
 {
     let mut refused = 0;
-    let mut i = 0;
-    while i < 8 * image.len() {
-        refused += refusal_changed(v, ring, image, i / 8, 1 << (i % 8));
-        i += 1;
+    for i in 0..8 * image.len() {
+        if is_refused_changed(v, ring, image, i / 8, 1 << (i % 8)) {
+            refused += 1;
+        }
     }
     refused
 }
@@ -180,11 +158,7 @@ fn closed(v: Volume, ring: &[u8]) -> usize {
     let mut output = [0u8; 240];
     let answer = read_from(v, ring, v.id, START, CLOSE, &mut output);
     let count = answer.count;
-    let walk = reply_walker::walk_reply(&output[..count]);
-    match walk {
-        Walk::Whole(_, n) => n,
-        Walk::BadAt(_) => 0,
-    }
+    reply_walker::walk_reply(&output[..count]).map_or(0, |walk| walk.count)
 }
 
 // The update counts as done once each of its files is closed.
@@ -201,11 +175,12 @@ fn print_done(rt: &impl Print, v: Volume, ring: &[u8]) {
 
 // ---- The incident.
 
-// Up to the loss of power. The service's last position, or 0 if the journal is not saved.
-fn before(rt: &(impl Files + RandomSource + Print + Eprint), name: &[u8]) -> u64 {
+// Up to the loss of power. The service's last position, if the journal is saved.
+fn before(rt: &(impl Files + RandomSource + Print + Eprint), name: &[u8]) -> Option<u64> {
     let mut ring = [0u8; CAPACITY];
     print(rt, b"-- the update begins\n");
-    let v = post_changes(rt, created(CAPACITY), &mut ring, 0, BEFORE);
+    let mut v = created(CAPACITY);
+    post_changes(rt, &mut v, &mut ring, 0, BEFORE);
     print(rt, b"-- the service reads, and is cut off\n");
     let at = read_once(rt, v, &ring, ID, START);
     print(
@@ -213,26 +188,26 @@ fn before(rt: &(impl Files + RandomSource + Print + Eprint), name: &[u8]) -> u64
         b"-- the server saves the journal, and loses its power\n",
     );
     if !save(rt, v, &ring, name) {
-        return 0;
+        return None;
     }
-    at
+    Some(at)
 }
 
 // From the service's return to the end of the update.
-fn finish(rt: &impl Print, v: Volume, ring: &mut [u8], start: u64) {
+fn finish(rt: &impl Print, v: &mut Volume, ring: &mut [u8], start: u64) {
     print(rt, b"-- the service returns with the old id\n");
-    read_once(rt, v, ring, ID, start);
+    read_once(rt, *v, ring, ID, start);
     print(
         rt,
         b"-- it asks for the new id, and goes on from its last position\n",
     );
-    let at = read_on(rt, v, ring, v.id, start);
-    print_done(rt, v, ring);
+    let at = read_on(rt, *v, ring, v.id, start);
+    print_done(rt, *v, ring);
     print(rt, b"-- the server finishes the update\n");
-    let w = post_changes(rt, v, ring, BEFORE, CHANGES);
+    post_changes(rt, v, ring, BEFORE, CHANGES);
     print(rt, b"-- the service reads on\n");
-    read_on(rt, w, ring, w.id, at);
-    print_done(rt, w, ring);
+    read_on(rt, *v, ring, v.id, at);
+    print_done(rt, *v, ring);
 }
 
 // From the start of the server on, with a service that stands at `start`. The ring is lost: other bytes stand there.
@@ -240,24 +215,24 @@ fn restart(rt: &impl Print, image: &mut [u8], start: u64)
     requires { length image.old ≤ 4128 }
 {
     let mut ring = [0xEEu8; CAPACITY];
-    let v = idle(CAPACITY, 0);
+    let mut v = idle(CAPACITY, 0);
     print(rt, b"-- the server starts, and is offered a damaged file\n");
     offer_damaged(rt, v, &mut ring, image);
     print(rt, b"-- it is offered the whole file\n");
-    let o = image_load::load_journal(v, &mut ring, image, NEXT_ID);
-    let w = o.volume;
-    if w.state != 1 {
+    if image_load::load_journal(&mut v, &mut ring, image, NEXT_ID).is_err() {
         print(rt, b"refused\n");
         return;
     }
-    print_journal(rt, w);
-    finish(rt, w, &mut ring, start);
+    print_journal(rt, v);
+    finish(rt, &mut v, &mut ring, start);
 }
 
 // Reads the file back, and starts the server with it.
 fn after(rt: &(impl Files + Print + Eprint), name: &[u8], start: u64) {
     let mut image = [0u8; ROOM];
-    let n = fetch(rt, name, &mut image);
+    let Some(n) = image_file::fetch(rt, name, &mut image) else {
+        return;
+    };
     if n != 0 {
         restart(rt, &mut image[..n], start);
     }
@@ -268,8 +243,7 @@ fn main(rt: HostRuntime) {
     if !take_name(&rt, &mut name) {
         return;
     }
-    let at = before(&rt, &name);
-    if at != 0 {
+    if let Some(at) = before(&rt, &name) {
         after(&rt, &name, at);
     }
     remove(&rt, &name);

@@ -1,26 +1,27 @@
 -- Checks in order: the first that applies decides.
-use Rattle.std.specs.Prelude.{Bool, true, false}
-use Rattle.std.proofs.Math.Option.{Option, none, some}
+use Rattle.std.specs.Prelude.{Bool, true, false, Result, Ok, Err, Option, None, Some}
 use Rattle.status.specs.declared.Status.{Status}
-use Rattle.status.specs.declared.Judged.{Judged}
-use Rattle.status.specs.declared.Judged.TheVariants.{Passed, Refused}
 
 -- the status x unless the test holds
 abbrev pub unless : Bool → Status → Option Status
-unless true x = none
-unless false x = some x
+unless true x = None
+unless false x = Some x
 
 -- the first of two checks that applies
 abbrev pub else : Option Status → Option Status → Option Status
-else none next = next
-else (some x) next = some x
+else None next = next
+else (Some x) next = Some x
 
 -- none applies
 abbrev pub passes : Option Status → Bool
-passes none = true
-passes (some x) = false
+passes None = true
+passes (Some x) = false
+
+-- a value, unless a check refuses it
+abbrev pub granted : {A : Type 0} → Option Status → A → Result A Status
+granted None y = Ok y
+granted (Some x) y = Err x
 
 -- what the checks come to
-abbrev pub judged : Option Status → Judged
-judged none = Passed
-judged (some x) = Refused x
+abbrev pub judged : Option Status → Result (Unit {0}) Status
+judged k = granted k tt

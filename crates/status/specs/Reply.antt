@@ -1,7 +1,7 @@
 -- What a control replies, and what the caller then sees of it.
-use Rattle.std.specs.Prelude.{◌≡◌, List, [], ◌++◌, ℕ, length, drop}
-use Rattle.std.proofs.Math.Option.{Option, none, some}
+use Rattle.std.specs.Prelude.{◌≡◌, List, [], ◌++◌, ℕ, length, drop, Result, Ok, Err, Option, None, Some}
 use Rattle.status.specs.declared.Status.{Status}
+use Rattle.status.specs.declared.Status.TheVariants.{Success}
 use Rattle.status.specs.declared.Answer.{Answer}
 
 -- a refusal, or a status with the bytes written to the output
@@ -11,13 +11,18 @@ pub data Reply : Type 0 where
 
 -- the checks come before the reply
 abbrev pub guard : Option Status → Reply → Reply
-guard none reply = reply
-guard (some x) reply = refuse x
+guard None reply = reply
+guard (Some x) reply = refuse x
 
 -- status and count: a refusal reports no bytes
 abbrev pub answer : Reply → Answer
 answer (refuse x) = record { status = x; count = 0 }
 answer (give x bytes) = record { status = x; count = length bytes }
+
+-- the answer of a call that wrote so many bytes, or is refused
+abbrev pub told : Result ℕ Status → Answer
+told (Ok n) = record { status = Success; count = n }
+told (Err x) = record { status = x; count = 0 }
 
 -- the output buffer: the bytes, and behind them what stood there; a refusal leaves it
 abbrev pub after : Reply → List ℕ → List ℕ

@@ -3,7 +3,7 @@
 use mathlib.Core.Path.{◌≡◌, refl, sym, ap, ap₂, ◌∙◌, subst}
 use mathlib.Core.Logic.{◌⊎◌, inl, inr}
 use mathlib.Core.Bool.{Bool, true, false, not, cond, ◌||◌}
-use mathlib.Core.Option.{Option, none, some}
+use Rattle.std.specs.Prelude.{Option, None, Some}
 use mathlib.Core.List.Memᴰ
 use mathlib.Core.List.{List, [], ◌∷◌, ◌++◌, append_assoc, Memᴰ}
 use Prim.Native.Nat.{ℕ, zero, suc, ◌+◌, ◌-◌, ◌^◌, ◌≤◌, ◌<◌}
@@ -39,7 +39,7 @@ use Rattle.journal.proofs.Boundaries.{marks-facts, sound-facts}
 use Rattle.journal_post.specs.declared.Change.{Change}
 use Rattle.journal_post.specs.declared.Verdict.{Verdict}
 use Rattle.journal_post.specs.declared.Verdict.TheVariants.{Skip, Reject}
-use Rattle.journal_post.specs.Post.{skipped, post_check, checked, verdict, verdict_status, leaves}
+use Rattle.journal_post.specs.Post.{skipped, post_check, checked, verdict, verdict_status, leaves, rejection}
 use Rattle.journal_post.specs.Posts.{Journal, Posting, after_post}
 use Rattle.journal_post.proofs.Keeping.{Keeping, empty-kept, keeping-kept, keeping-sound}
 use Rattle.journal_read.specs.Read.{read_check, read_answer, read_reply}
@@ -50,7 +50,7 @@ use Rattle.image_save.specs.Save.{save_check, save_as, save_reply}
 use Rattle.image_load.specs.Load.{settled, load_check}
 use Rattle.reparse_point.specs.Reparse.{points_check}
 use Rattle.reparse_update.specs.declared.Update.{Update}
-use Rattle.reparse_update.specs.Update.{Point, given_check, point_posting, rejection, update_check, left_by}
+use Rattle.reparse_update.specs.Update.{Point, given_check, point_posting, update_check, left_by}
 use Rattle.history.specs.Calls.{Read, Call, create, post, read, delete, finish, save, load, update, status_of, next, runs}
 use Rattle.history.proofs.Effects.{with, emptied, either, does}
 use Rattle.history.proofs.Simulate.{active-none}
@@ -94,7 +94,7 @@ module _ (r : Record) (t : List ℕ) (h : length r.name < 65536) where
       ∙ ap (take (length r.name)) (drop_at e (r.name ++ (o ++ t)) (name_offset v) (length_fields v r.fields (length r.name)))
       ∙ take_at r.name (o ++ t) (length r.name) refl
 
-  module _ (q : Record) (e : parse s ≡ some q) where
+  module _ (q : Record) (e : parse s ≡ Some q) where
     found-version : q.version ≡ r.version
     found-version =
         same_version q.version r.version
@@ -125,10 +125,10 @@ walked-first s h x t at ks e w =
     let c = tail-cons s at ks (omega (arith, l, n, record-long x)) w in
     go (omega (arith, l, n, number-range x.version)) c.0 c.1 c.2 c.3
   where
-    go : length x.name < 65536 → (q : Record) (rest : List Record) → parse (drop at s) ≡ some q → records (at + length_of q) (drop (at + length_of q) s) ≡ whole rest
+    go : length x.name < 65536 → (q : Record) (rest : List Record) → parse (drop at s) ≡ Some q → records (at + length_of q) (drop (at + length_of q) s) ≡ whole rest
         → (good_name x.name ≡ true) × (next : ℕ) × (rest : List Record) × (drop next s ≡ t) × (records next (drop next s) ≡ whole rest)
     go k q rest f v =
-        let p : parse (bytes_of x ++ t) ≡ some q = ap parse (sym e) ∙ f in
+        let p : parse (bytes_of x ++ t) ≡ Some q = ap parse (sym e) ∙ f in
         (found-good x t k q p, at + length_of q, rest, sym (drop-drop (length_of q) at s) ∙ ap (drop (length_of q)) e ∙ found-rest x t k q p, v)
 
 -- and so have all behind it
@@ -163,7 +163,7 @@ is_false false h = refl
 -- ---- checks that refuse
 
 abbrev Refuses : Option Status → Type 0
-Refuses o = (x : Status) × (o ≡ some x)
+Refuses o = (x : Status) × (o ≡ Some x)
 
 refuses-unless : (t : Bool) (x : Status) → t ≡ false → Refuses (unless t x)
 refuses-unless t x e = (x, ap (λ (b : Bool). unless b x) e)
@@ -172,8 +172,8 @@ refuses-left : (a b : Option Status) → Refuses a → Refuses (else a b)
 refuses-left a b (x, e) = (x, ap (λ (o : Option Status). else o b) e)
 
 refuses-right : (a b : Option Status) → Refuses b → Refuses (else a b)
-refuses-right none b k = k
-refuses-right (some x) b k = (x, refl)
+refuses-right None b k = k
+refuses-right (Some x) b k = (x, refl)
 
 performed-left : (o : Option Status) (v w : Volume) → Refuses o → (performed o v w).volume ≡ v
 performed-left o v w (x, e) = ap (λ (k : Option Status). (performed k v w).volume) e
@@ -186,10 +186,10 @@ posted-left true o x y k = refl
 posted-left false o x y (z, e) = ap (λ (k : Option Status). leaves (checked k) x y) e
 
 updated-left : (o : Option Status) (j k : Journal) (p f : Point) → k ≡ j → (left_by o j p k f).journal ≡ j
-updated-left none j k p f e = e
-updated-left (some x) j k p f e = refl
+updated-left None j k p f e = e
+updated-left (Some x) j k p f e = refl
 
-updated-rejected : (a b : Option Status) (d : Verdict) (x : Status) (j k : Journal) (p f : Point) → a ≡ none → b ≡ none → d ≡ Reject x
+updated-rejected : (a b : Option Status) (d : Verdict) (x : Status) (j k : Journal) (p f : Point) → a ≡ None → b ≡ None → d ≡ Reject x
     → (left_by (else a (else b (rejection d))) j p k f).status ≡ x
 updated-rejected a b d x j k p f e g h = rw (e, g, h)
 
@@ -237,7 +237,7 @@ module _ (j : Journal) (u : Unsound j) where
   post-corrupt : (p : Posting) → skipped v p.change ≡ false → status_of j (post p) ≡ FileCorruptError
   post-corrupt p e = ap verdict_status (rejected p e)
 
-  read-corrupt : (a : Read) → read_check v a.input a.room ≡ none → status_of j (read a) ≡ FileCorruptError
+  read-corrupt : (a : Read) → read_check v a.input a.room ≡ None → status_of j (read a) ≡ FileCorruptError
   unfolding read_reply
   read-corrupt a e = ap₂ (λ (o : Option Status) (b : Bool). (answer (guard o (guard (unless b FileCorruptError) (read_answer v.first (kept v j.ring) a.input a.room)))).status) e u.unsound
 
@@ -246,11 +246,11 @@ module _ (j : Journal) (u : Unsound j) where
   save-corrupt form room e k = ap (λ (b : Bool). (answer (guard (unless b InvalidDeviceRequest) (save_as (form_version form) v j.ring room))).status) e ∙ by (form_version form) k
     where
       by : (o : Option Version) → known o ≡ true → (answer (save_as o v j.ring room)).status ≡ FileCorruptError
-      by none k = absurd (not-both k)
-      by (some f) k = rw (active-none v u.active, u.unsound) refl
+      by None k = absurd (not-both k)
+      by (Some f) k = rw (active-none v u.active, u.unsound) refl
 
-  update-corrupt : (k : Update) (p : Point) (q : Posting) (input : List ℕ) → supported v.journal ≡ true → points_check v ≡ none
-      → given_check k p.file (length p.store) input ≡ none → status_of j (update k p q input) ≡ FileCorruptError
+  update-corrupt : (k : Update) (p : Point) (q : Posting) (input : List ℕ) → supported v.journal ≡ true → points_check v ≡ None
+      → given_check k p.file (length p.store) input ≡ None → status_of j (update k p q input) ≡ FileCorruptError
   unfolding update_check
   update-corrupt k p q input e a b =
       updated-rejected (points_check v) (given_check k p.file (length p.store) input) _ FileCorruptError j _ p _ a b (rejected (point_posting q) (rw (e, u.active)))

@@ -1,7 +1,6 @@
 -- A journal whose ring is not sound: refused and left as it is until it is deleted, and sound once it is created anew.
-use Rattle.std.specs.Prelude.{◌≡◌, true, false, ℕ, length}
+use Rattle.std.specs.Prelude.{◌≡◌, true, false, ℕ, length, None}
 use mathlib.Core.List.{List, [], ◌∷◌, Memᴰ}
-use Rattle.std.proofs.Math.Option.{none}
 use Rattle.status.specs.declared.Status.TheVariants.{Success, FileCorruptError}
 use Rattle.names.specs.Names.{good_name}
 use Rattle.usn_record.specs.Layout.{Record}
@@ -40,11 +39,11 @@ pub record Until : Type 0 where
   -- a post that is not skipped, a read that passes the checks ahead of the ring, a save in a known form, and a set or a delete of a reparse
   -- point that passes the checks ahead of its post are refused
   pub post-refused : (j : Journal) → Unsound j → (p : Posting) → skipped j.volume p.change ≡ false → status_of j (post p) ≡ FileCorruptError
-  pub read-refused : (j : Journal) → Unsound j → (a : Read) → read_check j.volume a.input a.room ≡ none → status_of j (read a) ≡ FileCorruptError
+  pub read-refused : (j : Journal) → Unsound j → (a : Read) → read_check j.volume a.input a.room ≡ None → status_of j (read a) ≡ FileCorruptError
   pub save-refused : (j : Journal) → Unsound j → (form room : ℕ) → supported j.volume.journal ≡ true → known (form_version form) ≡ true
       → status_of j (save form room) ≡ FileCorruptError
   pub update-refused : (j : Journal) → Unsound j → (u : Update) (p : Point) (q : Posting) (input : List ℕ) → supported j.volume.journal ≡ true
-      → points_check j.volume ≡ none → given_check u p.file (length p.store) input ≡ none → status_of j (update u p q input) ≡ FileCorruptError
+      → points_check j.volume ≡ None → given_check u p.file (length p.store) input ≡ None → status_of j (update u p q input) ≡ FileCorruptError
   -- it is deleted all the same
   pub deleted : (j : Journal) → Unsound j → status_of j (delete j.volume.id) ≡ Success
   -- where a creation behind that succeeds, in a buffer of the capacity, the ring is sound and keeps nothing, whatever bytes it has

@@ -48,13 +48,14 @@ pub fn idle(n: usize, last: u64) -> Volume
 pub fn created(n: usize) -> Volume
     ensures { result ≡ (create_outcome (idle_volume n 8000) 7).volume }
 {
-    let o = volume::create(idle(n, START), ID);
-    o.volume
+    let mut v = idle(n, START);
+    let _ = v.create(ID);
+    v
 }
 
 // Posts a change and prints its Usn.
-fn post(rt: &impl Print, v: Volume, ring: &mut [u8], file: u64, reason: u32, name: &[u8]) -> Volume
-    ensures { (record { volume = result; ring = ring.new }) ≡ after_post (record { volume = v; ring = ring.old }) (posting file reason name.now) }
+fn post(rt: &impl Print, v: &mut Volume, ring: &mut [u8], file: u64, reason: u32, name: &[u8])
+    ensures { (record { volume = v.new; ring = ring.new }) ≡ after_post (record { volume = v.old; ring = ring.old }) (posting file reason name.now) }
 {
     let c = Change {
         file: id_of(file),
@@ -66,14 +67,14 @@ fn post(rt: &impl Print, v: Volume, ring: &mut [u8], file: u64, reason: u32, nam
         attributes: 0x20,
     };
     let mut usn: u64 = 0;
-    let o = journal_post::post(v, ring, c, name, &mut usn);
+    let _ = journal_post::post(v, ring, c, name, &mut usn);
     print(rt, b"posted");
     print_number(rt, usn);
     print(rt, b"\n");
-    o.volume
 }
 
 // The Reason of change i of an update.
+#[tactic(auto, using(crate::proofs::Posting::last))]
 fn reason(i: usize) -> u32
     ensures { result ≡ reason_at i }
 {
@@ -86,8 +87,9 @@ fn reason(i: usize) -> u32
 }
 
 // Posts change i of an update.
-fn post_change(rt: &impl Print, v: Volume, ring: &mut [u8], i: usize) -> Volume
-    ensures { (record { volume = result; ring = ring.new }) ≡ after_post (record { volume = v; ring = ring.old }) (change_at i) }
+#[tactic(auto, using(crate::proofs::Posting::last), unfolding(crate::specs::Update::code, crate::specs::Update::table, crate::specs::Update::limits))]
+fn post_change(rt: &impl Print, v: &mut Volume, ring: &mut [u8], i: usize)
+    ensures { (record { volume = v.new; ring = ring.new }) ≡ after_post (record { volume = v.old; ring = ring.old }) (change_at i) }
 {
     let file = i / 3;
     match file {
@@ -98,16 +100,13 @@ fn post_change(rt: &impl Print, v: Volume, ring: &mut [u8], i: usize) -> Volume
 }
 
 // Posts changes `from` to `to` of one update after the other.
-pub fn post_changes(rt: &impl Print, v: Volume, ring: &mut [u8], from: usize, to: usize) -> Volume
-    ensures { (record { volume = result; ring = ring.new }) ≡ updated (record { volume = v; ring = ring.old }) from to }
+#[tactic(auto, using(crate::proofs::Posting::updated_end))]
+pub fn post_changes(rt: &impl Print, v: &mut Volume, ring: &mut [u8], from: usize, to: usize)
+    ensures { (record { volume = v.new; ring = ring.new }) ≡ updated (record { volume = v.old; ring = ring.old }) from to }
 {
-    let mut w = v;
-    let mut i = from;
-    while i < to {
-        w = post_change(rt, w, ring, i % CHANGES);
-        i += 1;
+    for i in from..to {
+        post_change(rt, v, ring, i % CHANGES);
     }
-    w
 }
 
 // ---- The service.
@@ -141,6 +140,7 @@ pub fn read_from(
 
 // Reads once from `start` on with room for two records, prints the reply, and returns its position; a refusal is printed and
 // leaves the reader where it is.
+#[tactic(auto, using(crate::proofs::Reading::moves), unfolding(crate::specs::Service::read_to))]
 pub fn read_once(rt: &impl Print, v: Volume, ring: &[u8], id: u64, start: u64) -> u64
     ensures { result ≡ read_to v ring.now id start }
 {
@@ -148,13 +148,12 @@ pub fn read_once(rt: &impl Print, v: Volume, ring: &[u8], id: u64, start: u64) -
     let answer = read_from(v, ring, id, start, 0xFFFF_FFFF, &mut output);
     let count = answer.count;
     if count < 8 {
-        let s = answer.status;
-        print_refusal(rt, s);
+        print_refusal(rt, answer.status);
         return start;
     }
     let mut text = [0u8; 400];
-    let listed = usn_listing::list_reply(&mut text, &output[..count]);
-    let n = listed.count;
+    // there is room for the listing
+    let n = usn_listing::list_reply(&mut text, &output[..count]).unwrap_or(0);
     print(rt, &text[..n]);
     le::get(&output, 0, 8)
 }
@@ -169,12 +168,12 @@ fn print_refusal(rt: &impl Print, s: Status) {
 
 // Reads from `start` on up to the journal's end, to a read that does not move the reader, or sixteen times, and returns the last
 // position.
+#[tactic(auto, using(crate::proofs::Reading::ended, crate::proofs::Reading::stuck, crate::proofs::Reading::turned, crate::proofs::Reading::used))]
 pub fn read_on(rt: &impl Print, v: Volume, ring: &[u8], id: u64, start: u64) -> u64
     ensures { result ≡ reads_to 16 v ring.now id start }
 {
     let mut at = start;
-    let mut i: usize = 0;
-    while i < 16 {
+    for _ in 0..16usize {
         if at == v.last {
             print(rt, b"at the end\n");
             return at;
@@ -184,7 +183,6 @@ pub fn read_on(rt: &impl Print, v: Volume, ring: &[u8], id: u64, start: u64) -> 
             return at;
         }
         at = next;
-        i += 1;
     }
     at
 }

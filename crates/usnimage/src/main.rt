@@ -2,10 +2,8 @@
 // that is decided about an image's bytes is decided by `list_image` and `move_image`, but that a file longer than any image is none.
 #![tactic(auto)]
 
-ghost use Rattle.std.specs.Prelude.{◌≤◌, length};
-ghost use Rattle.list_input.specs.Input.{Within};
+ghost use Rattle.std.specs.Prelude.{◌≤◌, length, IfSome};
 
-use list_input::Input;
 use program_io::{argument, argument_count, complain, fail};
 use status::{Answer, Status};
 use std::env::Env;
@@ -59,29 +57,25 @@ fn say_usage(rt: &impl Eprint) {
 // ---- The image.
 
 // Reads a file into `image`, and says so if it is longer than any image.
-fn fetch(rt: &(impl Files + Print + Eprint), name: &[u8], image: &mut [u8]) -> Input
-    ensures { Within (length image.old) result }
+fn fetch(rt: &(impl Files + Print + Eprint), name: &[u8], image: &mut [u8]) -> Option<usize>
+    ensures { IfSome result (λ n. n ≤ length image.old) }
 {
-    let input = image_file::fetch(rt, name, image);
-    let Input::Bytes(n) = input else {
-        return input;
-    };
+    let n = image_file::fetch(rt, name, image)?;
     if LONGEST < n {
         say(rt, b"no image\n");
-        return Input::Failed;
+        return None;
     }
-    input
+    Some(n)
 }
 
 fn list(rt: &(impl Files + Print + Eprint), name: &[u8]) {
     let mut image = [0u8; LONGEST + 1];
-    let input = fetch(rt, name, &mut image);
-    let Input::Bytes(n) = input else {
+    let Some(n) = fetch(rt, name, &mut image) else {
         return;
     };
     let mut text = [0u8; TEXT];
-    let answer = image_listing::list_image(&mut text, &image[..n]);
-    let count = answer.count;
+    // there is room for every listing
+    let count = image_listing::list_image(&mut text, &image[..n]).unwrap_or(0);
     say(rt, &text[..count]);
 }
 
@@ -107,49 +101,30 @@ fn move_file(
     new: &[u8],
 ) {
     let mut image = [0u8; LONGEST + 1];
-    let input = fetch(rt, name, &mut image);
-    let Input::Bytes(n) = input else {
+    let Some(n) = fetch(rt, name, &mut image) else {
         return;
     };
     let mut output = [0u8; LONGEST];
     let answer = moved(&image[..n], from, &mut output);
-    let status = answer.status;
-    let count = answer.count;
-    match status {
-        Status::Success => keep(rt, &output[..count], new, n),
-        _ => say_refusal(rt, status, from),
+    match answer.status {
+        Status::Success => keep(rt, &output[..answer.count], new, n),
+        status => say_refusal(rt, status, from),
     }
 }
 
 // ---- The arguments.
 
-fn is_same(a: &[u8], b: &[u8]) -> bool {
-    if a.len() != b.len() {
-        return false;
+// The form that a word moves an image from.
+fn form_from(word: &[u8]) -> Option<u32> {
+    match word {
+        b"up" => Some(1),
+        b"down" => Some(2),
+        _ => None,
     }
-    let mut i = 0;
-    while i < a.len() {
-        if a[i] != b[i] {
-            return false;
-        }
-        i += 1;
-    }
-    true
-}
-
-// The form that a word moves an image from; 0 where it is no such word.
-fn form_from(word: &[u8]) -> u32 {
-    if is_same(word, b"up") {
-        return 1;
-    }
-    if is_same(word, b"down") {
-        return 2;
-    }
-    0
 }
 
 // The form that argument 2 moves an image from. A word that does not fit is read as an empty one.
-fn form_asked(rt: &impl Env) -> u32 {
+fn form_asked(rt: &impl Env) -> Option<u32> {
     let mut word = [0u8; 8];
     let n = argument(rt, 2, &mut word);
     form_from(&word[..n])
@@ -167,11 +142,10 @@ fn list_asked(rt: &(impl Env + Files + Print + Eprint)) {
 }
 
 fn move_asked(rt: &(impl Env + Files + RandomSource + Print + Eprint)) {
-    let form = form_asked(rt);
-    if form == 0 {
+    let Some(form) = form_asked(rt) else {
         say_usage(rt);
         return;
-    }
+    };
     let mut name = [0u8; 4096];
     let n = argument(rt, 1, &mut name);
     let mut new = [0u8; 4096];

@@ -3,6 +3,7 @@
 use mathlib.Core.Path.{◌≡◌, refl, sym, ap, ap₂, ◌∙◌}
 use mathlib.Core.Bool.{true, false}
 use mathlib.Core.List.{List, [], ◌∷◌, ◌++◌}
+use Rattle.std.specs.Prelude.{Ok, Err}
 use Prim.Native.Nat.{ℕ, zero, suc, ◌+◌, ◌-◌, ◌*◌, ◌/◌, ◌%◌, ◌^◌, ◌≤◌, ◌<◌}
 use native.Mathlib.Omega.{arith}
 use lib.Dec.{eqb}
@@ -16,7 +17,7 @@ use Rattle.usn_record.specs.Layout.{Record, length_of}
 use Rattle.file_table.specs.Table.{Row, row_in, first_rows, rows}
 use Rattle.file_table.proofs.Rows.{rows-some}
 use Rattle.usnpaths.specs.declared.table.Extent.{Extent}
-use Rattle.usnpaths.specs.declared.table.Added.TheVariants.{All, BadAt, ManyFiles, LongNames}
+use Rattle.usnpaths.specs.declared.table.Unfit.TheVariants.{BadAt, ManyFiles, LongNames}
 use Rattle.usnpaths.specs.Rows.{behind, added_of}
 
 -- ---- the front of a run
@@ -92,22 +93,22 @@ names_more pool last run n k h m e =
 
 -- ---- what becomes of records
 
-pub added_none : (table pool at : ℕ) (e : Extent) → added_of table pool at e [] ≡ All e
+pub added_none : (table pool at : ℕ) (e : Extent) → added_of table pool at e [] ≡ Ok e
 unfolding added_of
 added_none table pool at e = refl
 
 module _ (table pool at : ℕ) (e : Extent) (r : Record) (rs : List Record) where
-  pub added-last : eqb (id_number r.fields.file) (2 ^ 64 - 1) ≡ true → added_of table pool at e (r ∷ rs) ≡ BadAt at
+  pub added-last : eqb (id_number r.fields.file) (2 ^ 64 - 1) ≡ true → added_of table pool at e (r ∷ rs) ≡ Err (BadAt at)
   unfolding added_of
   added-last q = rw q
 
   module _ (q : eqb (id_number r.fields.file) (2 ^ 64 - 1) ≡ false) where
-    pub added-many : table - e.rows < 56 → added_of table pool at e (r ∷ rs) ≡ ManyFiles
+    pub added-many : table - e.rows < 56 → added_of table pool at e (r ∷ rs) ≡ Err ManyFiles
     unfolding added_of
     added-many h = rw (q, lt-leb 56 (table - e.rows) h)
 
     module _ (h : 56 ≤ table - e.rows) where
-      pub added-long : pool - e.names < length r.name → added_of table pool at e (r ∷ rs) ≡ LongNames
+      pub added-long : pool - e.names < length r.name → added_of table pool at e (r ∷ rs) ≡ Err LongNames
       unfolding added_of
       added-long k = rw (q, le-leb 56 (table - e.rows) h, lt-leb (length r.name) (pool - e.names) k)
 

@@ -3,15 +3,16 @@
 use mathlib.Core.Path.{◌≡◌, refl, sym, ap, ◌∙◌}
 use mathlib.Core.Bool.{Bool, true, false, cond, ◌&&◌}
 use mathlib.Core.List.{List, [], ◌∷◌}
-use mathlib.Core.Option.{Option, none, some}
-use Prim.Native.Nat.{ℕ, ◌+◌, ◌-◌, ◌*◌, ◌/◌, ◌%◌, ◌^◌, ◌≤◌, ◌<◌}
+use Rattle.std.specs.Prelude.{Option, None, Some}
+use Prim.Native.Nat.{ℕ, ◌+◌, ◌-◌, ◌*◌, ◌^◌, ◌≤◌, ◌<◌}
 use native.Mathlib.Nat.{pow-suc, pow-le-pow_right}
 use native.Mathlib.Numerals.{add-one}
 use native.Mathlib.Omega.{arith}
 use lib.Dec.{leb, eqb, lit<}
 use lib.ListN.{length, take, drop, get_or, length-drop, drop_of_length-le}
 use lib.Seq.{drop-cons, take_all}
-use borrow.Author.Tests.{lt-ltb, le-ltb, le-leb, lt-leb, eq-eqb, ne_eqb}
+use borrow.Author.Tests.{le-leb, lt-leb, leb-true, eq-eqb, ne_eqb}
+use Rattle.le.proofs.Runs.{and_left, and_right}
 use Rattle.le.specs.Bytes.{begins}
 use Rattle.path_listing.specs.Text.{within}
 use Rattle.usnpaths.specs.Root.{digit_of, digits_from, start_of, digits_of, id_of}
@@ -31,44 +32,26 @@ above a c b h = go (leb a b)
 inside : (a c b : ℕ) → a ≤ b → b ≤ c → within a c b ≡ true
 inside a c b h k = rw (le-leb a b h, le-leb b c k)
 
-module _ (b : ℕ) where
-  pub decimal_digit : 48 ≤ b → b ≤ 57 → b - 48 ≡ digit_of b
-  unfolding digit_of
-  decimal_digit h k = rw (inside 48 57 b h k)
+within-both : (a c b : ℕ) → within a c b ≡ true → (a ≤ b) × (b ≤ c)
+within-both a c b e = (leb-true a b (and_left (leb a b) (leb b c) e), leb-true b c (and_right (leb a b) (leb b c) e))
 
-  pub upper-digit : 65 ≤ b → b ≤ 70 → b - 55 ≡ digit_of b
-  unfolding digit_of
-  upper-digit h k = rw (above 48 57 b (omega arith), inside 65 70 b h k)
-
-  pub lower-digit : 97 ≤ b → b ≤ 102 → b - 87 ≡ digit_of b
-  unfolding digit_of
-  lower-digit h k = rw (above 48 57 b (omega arith), above 65 70 b (omega arith), inside 97 102 b h k)
-
-  pub before-digits : b < 48 → 16 ≡ digit_of b
-  unfolding digit_of
-  before-digits h = rw (below 48 57 b h, below 65 70 b (omega arith), below 97 102 b (omega arith))
-
-  pub before-upper : 57 < b → b < 65 → 16 ≡ digit_of b
-  unfolding digit_of
-  before-upper h k = rw (above 48 57 b h, below 65 70 b k, below 97 102 b (omega arith))
-
-  pub before-lower : 70 < b → b < 97 → 16 ≡ digit_of b
-  unfolding digit_of
-  before-lower h k = rw (above 48 57 b (omega arith), above 65 70 b h, below 97 102 b k)
-
-  pub behind-digits : 102 < b → 16 ≡ digit_of b
-  unfolding digit_of
-  behind-digits h = rw (above 48 57 b (omega arith), above 65 70 b (omega arith), above 97 102 b h)
+pub digit-small : (b d : ℕ) → digit_of b ≡ Some d → d < 16
+unfolding digit_of
+digit-small b d e = by (within 48 57 b) (within 65 70 b) (within 97 102 b) refl refl refl e
+  where
+    by : (t u v : Bool) → within 48 57 b ≡ t → within 65 70 b ≡ u → within 97 102 b ≡ v
+        → cond t (Some (b - 48)) (cond u (Some (b - 55)) (cond v (Some (b - 87)) None)) ≡ Some d
+        → d < 16
+    by true u v p q r e = let z : b - 48 ≡ d = cc in omega (arith, z, within-both 48 57 b p)
+    by false true v p q r e = let z : b - 55 ≡ d = cc in omega (arith, z, within-both 65 70 b q)
+    by false false true p q r e = let z : b - 87 ≡ d = cc in omega (arith, z, within-both 97 102 b r)
+    by false false false p q r e = let z : ◌≡◌ {A = ℕ} 0 1 = cc in absurd (omega arith)
 
 -- ---- digits
 
--- a digit more
-pub shift-number : (low high d : ℕ) → (low % 2 ^ 60 * 16 + d) + 2 ^ 64 * (high * 16 + low / 2 ^ 60) ≡ 16 * (low + 2 ^ 64 * high) + d
-shift-number low high d = omega arith
-
--- the upper half of a number of at most 31 digits has a digit's room left
-pub high_small : (low high i : ℕ) → low + 2 ^ 64 * high < 16 ^ i → i ≤ 31 → high < 2 ^ 60
-high_small low high i h k =
+-- a number of at most 31 digits has a digit's room left
+pub has_room : (n i : ℕ) → n < 16 ^ i → i ≤ 31 → n < 2 ^ 124
+has_room n i h k =
     let m : 16 ^ i ≤ 16 ^ 31 = pow-le-pow_right {n = 16} (lit< tt) {j = 31} k in
     omega arith
 
@@ -79,27 +62,22 @@ pub record Read (s : List ℕ) (i n : ℕ) : Type 0 where
   pub onward : digits_from n (drop i s) ≡ digits_from 0 s
 
 module _ (s : List ℕ) where
-  pub read-start : Read s 0 0
-  read-start = record { inside = omega arith; fits = omega arith; onward = refl }
-
-  module _ (i n d : ℕ) (u : Read s i n) (h : i < length s) (e : d ≡ digit_of (get_or s i 0)) where
-    pub read_more : d < 16 → (m : ℕ) → m ≡ 16 * n + d → Read s (i + 1) m
+  module _ (i n : ℕ) (u : Read s i n) (h : i < length s) where
+    pub read_more : (d : ℕ) → digit_of (get_or s i 0) ≡ Some d → Read s (i + 1) (16 * n + d)
     unfolding digits_from
-    read_more k m q =
+    read_more d e =
+        let k : d < 16 = digit-small (get_or s i 0) d e in
         record {
           inside = omega arith;
-          fits = rw (add-one, pow-suc) (omega (arith, u.fits));
-          onward =
-              rw (add-one, q, e)
-              (sym (ap (digits_from n) (drop-cons s i 0 h) ∙ rw (lt-ltb (digit_of (get_or s i 0)) 16 (rw e at k)))
-              ∙ u.onward);
+          fits = rw (add-one, pow-suc) (omega (arith, u.fits, k));
+          onward = rw add-one (sym (ap (digits_from n) (drop-cons s i 0 h) ∙ rw e) ∙ u.onward);
         }
 
-    pub read-bad : 16 ≤ d → none ≡ digits_from 0 s
+    pub read-bad : digit_of (get_or s i 0) ≡ None → None ≡ digits_from 0 s
     unfolding digits_from
-    read-bad k = sym (sym u.onward ∙ ap (digits_from n) (drop-cons s i 0 h) ∙ rw (le-ltb (digit_of (get_or s i 0)) 16 (rw e at k)))
+    read-bad e = sym (sym u.onward ∙ ap (digits_from n) (drop-cons s i 0 h) ∙ rw e)
 
-  pub read-end : (i n : ℕ) → Read s i n → length s ≤ i → some n ≡ digits_from 0 s
+  pub read-end : (i n : ℕ) → Read s i n → length s ≤ i → Some n ≡ digits_from 0 s
   unfolding digits_from
   read-end i n u h = sym (ap (digits_from n) (drop_of_length-le s {i = i} h)) ∙ u.onward
 
@@ -140,11 +118,11 @@ module _ (word : List ℕ) (r : ℕ) (e : r ≡ start_of word) where
   size : length (digits_of word) ≡ length word - r
   size = ap length (digits-at word r e) ∙ length-drop r word
 
-  pub root_none : length word - r < 1 → none ≡ id_of word
+  pub root_none : length word - r < 1 → None ≡ id_of word
   unfolding id_of
   root_none h = rw (below 1 32 (length (digits_of word)) (omega (arith, size)))
 
-  pub root-long : 32 < length word - r → none ≡ id_of word
+  pub root-long : 32 < length word - r → None ≡ id_of word
   unfolding id_of
   root-long h = rw (above 1 32 (length (digits_of word)) (omega (arith, size)))
 

@@ -1,37 +1,33 @@
 -- The row that is written of a record, read back; and what is taken as a reply is added.
 -- Assumes nothing.
-use mathlib.Core.Path.{◌≡◌, refl, sym, ap, ap₂, ◌∙◌, subst}
-use mathlib.Core.Bool.{true, false, ◌&&◌}
+use mathlib.Core.Path.{◌≡◌, refl, sym, ap, ap₂, ◌∙◌}
+use mathlib.Core.Bool.{true, false}
 use mathlib.Core.List.{List, [], ◌∷◌, ◌++◌, append_assoc, append-nil}
-use mathlib.Core.Option.{some}
-use Prim.Native.Nat.{ℕ, ◌+◌, ◌-◌, ◌*◌, ◌%◌, ◌^◌, ◌≤◌, ◌<◌}
+use Rattle.std.specs.Prelude.{Some, Result, Ok}
+use Prim.Native.Nat.{ℕ, ◌+◌, ◌-◌, ◌%◌, ◌^◌, ◌≤◌, ◌<◌}
 use native.Mathlib.Omega.{arith}
 use lib.Dec.{eqb}
 use lib.ListN.{length, take, drop, get_or, length-append}
 use lib.Seq.{take_at, drop_at}
-use borrow.Author.Tests.{eqb-true}
 use Rattle.le.specs.Numbers.{le, number_at, encode, decode, total}
 use Rattle.le.proofs.Numbers.{length-le, length_two, length-encode, decode-encode}
 use Rattle.le.proofs.Places.{field_at}
-use Rattle.le.proofs.Runs.{and_left}
 use Rattle.le.proofs.Tail.{put_first, put_next, lent, back}
 use Rattle.file_ids.specs.Ids.{Id, id_number}
 use Rattle.usn_record.specs.declared.Fields.{Fields}
 use Rattle.usn_record.specs.Layout.{Record, length_of}
 use Rattle.record_reader.specs.declared.Entry.{Entry}
 use Rattle.record_reader.specs.Read.{parse, entry_of}
-use Rattle.records.specs.Records.{Records, whole, bad, record_list, records}
+use Rattle.records.specs.Records.{whole, record_list, records}
 use Rattle.records.proofs.Runs.{tail-cons, tail-nil}
-use Rattle.reply_walker.specs.Reply.{records_of}
 use Rattle.usn_listing.specs.Listing.{is_whole}
 use Rattle.usn_listing.proofs.Writing.{same_back}
 use Rattle.usn_listing.proofs.Listing.{part, Met, lines_start}
 use Rattle.usnpaths.specs.declared.table.Extent.{Extent}
-use Rattle.usnpaths.specs.declared.table.Added.{Added}
-use Rattle.usnpaths.specs.declared.table.Added.TheVariants.{All}
-use Rattle.usnpaths.specs.Rows.{row_of, rows_of, names_of, added_of, reply_added, Holds, Inside, AddedInside}
+use Rattle.usnpaths.specs.declared.table.Unfit.{Unfit}
+use Rattle.usnpaths.specs.Rows.{row_of, rows_of, names_of, added_of, Holds, Inside, AddedInside}
 use Rattle.usnpaths.proofs.Adding.{rows_more, names_more, added_none, added_more}
-use Rattle.file_table.specs.Table.{Row, row_in, good_rows, rows, rows as table-rows, distinct, right_table}
+use Rattle.file_table.specs.Table.{Row, row_in, rows as table-rows}
 
 -- ---- a row
 
@@ -108,16 +104,6 @@ module _ (usn attributes size place : ℕ) where
         let w : back 32 l₁ l₂ ≡ bytes = p.whole ∙ append_assoc (id ++ parent) (encode sizes (numbers usn attributes size place)) (drop 56 o) ∙ ap (λ (l : List ℕ). (id ++ parent) ++ (encode sizes (numbers usn attributes size place) ++ l)) (sym z) in
         (ap row_in w ∙ read, ap (drop 56) p.whole ∙ drop_at ((id ++ parent) ++ encode sizes (numbers usn attributes size place)) (drop 56 o) 56 p.size)
 
--- ---- whole rows
-
-pub whole-rows : (pool table : List ℕ) → right_table pool table ≡ true → length table % 56 ≡ 0
-unfolding right_table
-whole-rows pool table e = eqb-true (length table % 56) 0 (and_left (eqb (length table % 56) 0) (good_rows pool (rows table) && distinct (rows table)) e)
-
--- an id is compared with the last of 64 bits by its number
-pub last-test : (k n : ℕ) → k ≡ n → eqb k (2 ^ 64 - 1 + 2 ^ 64 * 0) ≡ eqb n (2 ^ 64 - 1)
-last-test k n e = rw e
-
 -- ---- a reply
 
 -- the records of a reply
@@ -166,7 +152,7 @@ unfolding names_of
 names-of r rs = refl
 
 -- the place behind the record of a turn
-pub met_next : (s : List ℕ) (at : ℕ) (rest : List Record) (x : Entry) → at < length s → records at (drop at s) ≡ whole rest → (m : Met s at rest x) → ((q : Record) → parse (drop at s) ≡ some q → x ≡ entry_of at q)
+pub met_next : (s : List ℕ) (at : ℕ) (rest : List Record) (x : Entry) → at < length s → records at (drop at s) ≡ whole rest → (m : Met s at rest x) → ((q : Record) → parse (drop at s) ≡ Some q → x ≡ entry_of at q)
     → x.next ≡ at + length_of m.first
 met_next s at rest x h e m k =
     let t = tail-cons s at rest h e in
@@ -231,7 +217,7 @@ filled_more table₀ pool₀ s table pool last₁ last₂ at rows names b x u m 
 
 -- where no record is left, all are added
 pub filled-end : (table₀ pool₀ s table pool : List ℕ) (at rows names : ℕ) (e : Extent) → Filled table₀ pool₀ e s table pool at rows names → length s ≤ at
-    → let r = All (record { rows = rows; names = names }) in
+    → let r : Result Extent Unfit = Ok (record { rows = rows; names = names }) in
     (r ≡ added_of (length table₀) (length pool₀) 8 e (all s)) × Holds table₀ pool₀ e (all s) table pool r × AddedInside (length table₀) (length pool₀) r
 unfolding rows_of names_of
 filled-end table₀ pool₀ s table pool at rows names e u h =
@@ -244,22 +230,3 @@ filled-end table₀ pool₀ s table pool at rows names e u h =
       ),
       (u.rows_inside, u.names-inside, u.whole_row),
     )
-
--- a reply that is whole
-pub whole-added : (table pool s after names : List ℕ) (e : Extent) (r : Added) → is_whole (records_of s) ≡ true → records_of s ≡ records 8 (drop 8 s)
-    → (r ≡ added_of (length table) (length pool) 8 e (all s)) × Holds table pool e (all s) after names r × AddedInside (length table) (length pool) r
-    → (r ≡ reply_added (length table) (length pool) e (records_of s)) × Holds table pool e (record_list (records_of s)) after names r × AddedInside (length table) (length pool) r
-whole-added table pool s after names e r w q t =
-    let a : all s ≡ record_list (records_of s) = ap record_list (sym q) in (
-      t.0 ∙ ap (added_of (length table) (length pool) 8 e) a ∙ same (records_of s) w,
-      subst (λ (rs : List Record). Holds table pool e rs after names r) a t.1,
-      t.2,
-    )
-  where
-    same : (q : Records) → is_whole q ≡ true → added_of (length table) (length pool) 8 e (record_list q) ≡ reply_added (length table) (length pool) e q
-    same (whole rs) w = refl
-    same (bad place) w = let z : ◌≡◌ {A = ℕ} 0 1 = cc in absurd (omega arith)
-
--- what is taken once all of a reply is added
-pub taken-inside : (table pool : ℕ) (r : Added) (e : Extent) → r ≡ All e → AddedInside table pool r → Inside table pool e.rows e.names
-taken-inside table pool r e q i = rw q at i

@@ -1,13 +1,13 @@
 -- The rows that are made of records, and what is taken of the table and of the pool.
-use Rattle.std.specs.Prelude.{◌≡◌, cond, List, [], ◌∷◌, ◌++◌, ℕ, ◌+◌, ◌-◌, ◌%◌, ◌^◌, ◌≤◌, leb, eqb, length, take}
+use Rattle.std.specs.Prelude.{◌≡◌, cond, List, [], ◌∷◌, ◌++◌, ℕ, ◌+◌, ◌-◌, ◌%◌, ◌^◌, ◌≤◌, leb, eqb, length, take, Result, Ok, Err}
 use Rattle.file_ids.specs.Ids.{id_number}
 use Rattle.usn_record.specs.declared.Fields.{Fields}
 use Rattle.usn_record.specs.Layout.{Record, length_of}
 use Rattle.records.specs.Records.{Records, whole, bad}
 use Rattle.file_table.specs.Table.{Row, rows}
 use Rattle.usnpaths.specs.declared.table.Extent.{Extent}
-use Rattle.usnpaths.specs.declared.table.Added.{Added}
-use Rattle.usnpaths.specs.declared.table.Added.TheVariants.{All, BadAt, ManyFiles, LongNames, Failed}
+use Rattle.usnpaths.specs.declared.table.Unfit.{Unfit}
+use Rattle.usnpaths.specs.declared.table.Unfit.TheVariants.{BadAt, ManyFiles, LongNames}
 
 -- ---- the rows of records
 
@@ -41,26 +41,23 @@ behind e n = record { rows = e.rows + 56; names = e.names + n }
 
 -- records, the first of which stands at a place of the reply, behind what is taken of a table and a pool of these lengths: one that cannot be a row,
 -- one for which there is no room in the table, or in the pool, or all of them
-unfoldable pub added_of : ℕ → ℕ → ℕ → Extent → List Record → Added
-added_of table pool at e [] = All e
+unfoldable pub added_of : ℕ → ℕ → ℕ → Extent → List Record → Result Extent Unfit
+added_of table pool at e [] = Ok e
 added_of table pool at e (r ∷ rs) =
     let more = added_of table pool (at + length_of r) (behind e (length r.name)) rs in
-    cond (eqb (id_number r.fields.file) (2 ^ 64 - 1)) (BadAt at)
-    (cond (leb 56 (table - e.rows)) (cond (leb (length r.name) (pool - e.names)) more LongNames) ManyFiles)
+    cond (eqb (id_number r.fields.file) (2 ^ 64 - 1)) (Err (BadAt at))
+    (cond (leb 56 (table - e.rows)) (cond (leb (length r.name) (pool - e.names)) more (Err LongNames)) (Err ManyFiles))
 
 -- a whole reply: its records, or where it is bad
-abbrev pub reply_added : ℕ → ℕ → Extent → Records → Added
+abbrev pub reply_added : ℕ → ℕ → Extent → Records → Result Extent Unfit
 reply_added table pool e (whole rs) = added_of table pool 8 e rs
-reply_added table pool e (bad place) = BadAt place
+reply_added table pool e (bad place) = Err (BadAt place)
 
 -- where all of them are added, table and pool hold what was taken before, and behind it their rows and their names
-abbrev pub Holds : List ℕ → List ℕ → Extent → List Record → List ℕ → List ℕ → Added → Type 0
-Holds table pool old rs after names (All e) =
+abbrev pub Holds : List ℕ → List ℕ → Extent → List Record → List ℕ → List ℕ → Result Extent Unfit → Type 0
+Holds table pool old rs after names (Ok e) =
     (rows (take e.rows after) ≡ rows (take old.rows table) ++ rows_of old.names rs) × (take e.names names ≡ take old.names pool ++ names_of rs)
-Holds table pool old rs after names (BadAt place) = Unit {0}
-Holds table pool old rs after names ManyFiles = Unit {0}
-Holds table pool old rs after names LongNames = Unit {0}
-Holds table pool old rs after names Failed = Unit {0}
+Holds table pool old rs after names (Err why) = Unit {0}
 
 -- ---- bounds
 
@@ -69,9 +66,6 @@ abbrev pub Inside : ℕ → ℕ → ℕ → ℕ → Type 0
 Inside table pool rows names = (rows ≤ table) × (names ≤ pool) × (rows % 56 ≡ 0)
 
 -- what is taken once a reply was added lies inside
-abbrev pub AddedInside : ℕ → ℕ → Added → Type 0
-AddedInside table pool (All e) = Inside table pool e.rows e.names
-AddedInside table pool (BadAt place) = Unit {0}
-AddedInside table pool ManyFiles = Unit {0}
-AddedInside table pool LongNames = Unit {0}
-AddedInside table pool Failed = Unit {0}
+abbrev pub AddedInside : ℕ → ℕ → Result Extent Unfit → Type 0
+AddedInside table pool (Ok e) = Inside table pool e.rows e.names
+AddedInside table pool (Err why) = Unit {0}

@@ -1,22 +1,19 @@
 // Shows the path of each file that captured replies of an enumeration tell of. No contract can speak of what the system reads or writes: the
-// table is made by `add_reply`, judged by `judge_table`, and each line is `put_path_line`'s.
+// table is made by `add_reply`, judged by `Table::judge`, and each line is `put_path_line`'s.
 #![tactic(auto)]
 
 mod root;
 mod table;
 
-ghost use Rattle.std.specs.Prelude.{◌≡◌, true, ◌≤◌, length};
-ghost use Rattle.file_table.specs.Table.{rows, right_table, rising};
+ghost use Rattle.std.specs.Prelude.{◌≡◌, ◌≤◌, length};
 ghost use Rattle.usnpaths.specs.Rows.{Inside, AddedInside};
 
-use file_ids::{FileId, id_of_halves};
-use file_table::{Order, ROW};
-use list_input::Input;
+use file_ids::FileId;
+use file_table::{ROW, Table};
 use program_io::{Words, argument, argument_count, complain, fail};
-use root::Root;
 use std::env::Env;
 use std::rt::Files;
-use table::{Added, Extent};
+use table::{Extent, Unfit};
 
 // The longest reply. A file is read into a byte more: one that fills that is longer, whatever follows.
 const REPLY: usize = 65536;
@@ -30,11 +27,11 @@ const POOL: usize = 2097152;
 // The room that the longest line wants.
 const LINE: usize = 98332;
 
-// What is taken of the table and the pool, and whether every file so far was good.
-#[derive(Clone, Copy)]
+// What is taken of the table and the pool, and whether every file so far was good. A bad file ends nothing: the ones behind it are told of too,
+// so the flag stands beside what is taken, and no Result would.
+#[derive(Clone, Copy, Debug, PartialEq, Eq)]
 struct Taken {
-    rows: usize,
-    names: usize,
+    extent: Extent,
     good: bool,
 }
 
@@ -54,12 +51,12 @@ fn say_bad(rt: &impl Eprint, name: &[u8], place: usize) {
 }
 
 // Says why a file is not added. Where the system failed, that is said already.
-fn say_why(rt: &impl Eprint, name: &[u8], added: Added) {
-    match added {
-        Added::BadAt(place) => say_bad(rt, name, place),
-        Added::ManyFiles => say(rt, name, ": more than 65536 records\n"),
-        Added::LongNames => say(rt, name, ": names of more than 2097152 bytes\n"),
-        _ => {}
+fn say_why(rt: &impl Eprint, name: &[u8], why: Unfit) {
+    match why {
+        Unfit::BadAt(place) => say_bad(rt, name, place),
+        Unfit::ManyFiles => say(rt, name, ": more than 65536 records\n"),
+        Unfit::LongNames => say(rt, name, ": names of more than 2097152 bytes\n"),
+        Unfit::Unread => {}
     }
 }
 
@@ -72,30 +69,16 @@ fn add_file(
     table: &mut [u8],
     pool: &mut [u8],
     taken: Extent,
-) -> Added
+) -> Result<Extent, Unfit>
     requires { Inside (length table.old) (length pool.old) taken.rows taken.names }
     ensures { AddedInside (length table.old) (length pool.old) result }
 {
     let mut reply = [0u8; REPLY + 1];
-    let input = image_file::fetch(rt, name, &mut reply);
-    let Input::Bytes(n) = input else {
-        return Added::Failed;
-    };
+    let n = image_file::fetch(rt, name, &mut reply).ok_or(Unfit::Unread)?;
     if REPLY < n {
-        return Added::BadAt(REPLY);
+        return Err(Unfit::BadAt(REPLY));
     }
     table::add_reply(table, pool, &reply[..n], taken)
-}
-
-// What is taken once a file was not good.
-fn refused(taken: Taken) -> Taken
-    ensures { (result.rows ≡ taken.rows) × (result.names ≡ taken.names) }
-{
-    Taken {
-        rows: taken.rows,
-        names: taken.names,
-        good: false,
-    }
 }
 
 // Adds a file behind what is taken. What a bad one left there is not taken.
@@ -106,23 +89,19 @@ fn add_named(
     pool: &mut [u8],
     taken: Taken,
 ) -> Taken
-    requires { Inside (length table.old) (length pool.old) taken.rows taken.names }
-    ensures { Inside (length table.old) (length pool.old) result.rows result.names }
+    requires { Inside (length table.old) (length pool.old) taken.extent.rows taken.extent.names }
+    ensures { Inside (length table.old) (length pool.old) result.extent.rows result.extent.names }
 {
-    let extent = Extent {
-        rows: taken.rows,
-        names: taken.names,
-    };
-    let added = add_file(rt, name, table, pool, extent);
-    if let Added::All(more) = added {
-        return Taken {
-            rows: more.rows,
-            names: more.names,
-            good: taken.good,
-        };
+    match add_file(rt, name, table, pool, taken.extent) {
+        Ok(extent) => Taken { extent, ..taken },
+        Err(why) => {
+            say_why(rt, name, why);
+            Taken {
+                good: false,
+                ..taken
+            }
+        }
     }
-    say_why(rt, name, added);
-    refused(taken)
 }
 
 // Adds the file that argument i names. A name that is too long for any file is read as an empty one, which names none.
@@ -133,14 +112,17 @@ fn add_argument(
     pool: &mut [u8],
     taken: Taken,
 ) -> Taken
-    requires { Inside (length table.old) (length pool.old) taken.rows taken.names }
-    ensures { Inside (length table.old) (length pool.old) result.rows result.names }
+    requires { Inside (length table.old) (length pool.old) taken.extent.rows taken.extent.names }
+    ensures { Inside (length table.old) (length pool.old) result.extent.rows result.extent.names }
 {
     let mut name = [0u8; 4096];
     let n = argument(rt, i, &mut name);
     if n == 0 {
         say_usage(rt);
-        return refused(taken);
+        return Taken {
+            good: false,
+            ..taken
+        };
     }
     add_named(rt, &name[..n], table, pool, taken)
 }
@@ -152,37 +134,27 @@ fn add_arguments(
     pool: &mut [u8],
     count: usize,
 ) -> Taken
-    ensures { Inside (length table.old) (length pool.old) result.rows result.names }
+    ensures { Inside (length table.old) (length pool.old) result.extent.rows result.extent.names }
 {
     let mut taken = Taken {
-        rows: 0,
-        names: 0,
+        extent: Extent { rows: 0, names: 0 },
         good: true,
     };
-    let mut i = 2;
-    while i < count {
+    for i in 2..count {
         taken = add_argument(rt, i, table, pool, taken);
-        i += 1;
     }
     taken
 }
 
 // ---- The paths.
 
-// Writes the line of each row of a table that is right, in rising order or not. `line` has room for one.
-fn show_rows(
-    rt: &(impl Print + Eprint),
-    line: &mut [u8],
-    table: &[u8],
-    pool: &[u8],
-    ordered: bool,
-    root: FileId,
-)
-    requires { (right_table pool.now table.now ≡ true) × (ordered ≡ true → rising (rows table.now) ≡ true) × (98332 ≤ length line.old) }
+// Writes the line of each row of a table that is right. `line` has room for one.
+fn show_rows(rt: &(impl Print + Eprint), line: &mut [u8], table: &Table, root: FileId)
+    requires { 98332 ≤ length line.old }
 {
     let mut at = 0;
-    while at < table.len() {
-        let n = path_listing::put_path_line(line, table, pool, ordered, root, at);
+    while at < table.bytes.len() {
+        let n = path_listing::put_path_line(line, table, root, at);
         if let Err(error) = rt.write_all(&line[..n]) {
             fail(rt, b"write", error);
             return;
@@ -194,11 +166,9 @@ fn show_rows(
 // Judges the table, and shows its paths if it is right. Each of its rows is a record's: only an id that stands twice can be wrong.
 fn show(rt: &(impl Print + Eprint), table: &[u8], pool: &[u8], root: FileId) {
     let mut line = [0u8; LINE];
-    let order = file_table::judge_table(pool, table);
-    match order {
-        Order::Bad => complain(rt, "an id stands twice\n"),
-        Order::Rising => show_rows(rt, &mut line, table, pool, true, root),
-        Order::Mixed => show_rows(rt, &mut line, table, pool, false, root),
+    match Table::judge(table, pool) {
+        None => complain(rt, "an id stands twice\n"),
+        Some(table) => show_rows(rt, &mut line, &table, root),
     }
 }
 
@@ -214,8 +184,7 @@ fn show_files(
     if !taken.good {
         return;
     }
-    let rows = taken.rows;
-    let names = taken.names;
+    let Extent { rows, names } = taken.extent;
     show(rt, &table[..rows], &pool[..names], root);
 }
 
@@ -239,7 +208,7 @@ fn show_paths(rt: &(impl Env + Files + Print + Eprint), root: FileId, count: usi
 // ---- The arguments.
 
 // The id that argument 1 says. A word that does not fit is read as an empty one.
-fn root_asked(rt: &impl Env) -> Root {
+fn root_asked(rt: &impl Env) -> Option<u128> {
     let mut word = [0u8; 34];
     let n = argument(rt, 1, &mut word);
     root::read_root(&word[..n])
@@ -251,9 +220,8 @@ fn main(rt: HostRuntime) {
         say_usage(&rt);
         return;
     }
-    let asked = root_asked(&rt);
-    match asked {
-        Root::Id(key) => show_paths(&rt, id_of_halves(key.low, key.high), count),
-        Root::Unknown => say_usage(&rt),
+    match root_asked(&rt) {
+        Some(id) => show_paths(&rt, id.to_le_bytes(), count),
+        None => say_usage(&rt),
     }
 }

@@ -6,28 +6,37 @@ ghost use Rattle.records.specs.Records.{record_list, records};
 ghost use Rattle.reply_walker.specs.Reply.{records_of};
 ghost use Rattle.usn_listing.specs.Listing.{is_whole};
 ghost use Rattle.file_table.specs.Table.{row_in};
+ghost use Rattle.usnpaths.specs.declared.table.Unfit.TheVariants.{BadAt};
 ghost use Rattle.usnpaths.specs.Rows.{row_of, added_of, reply_added, Holds, Inside, AddedInside};
 
-use file_ids::FileId;
-use file_table::{Key, ROW, is_equal, key_of};
-use reply_walker::Walk;
+use file_ids::{FileId, id_number};
+use file_table::ROW;
+use record_reader::BadRecord;
 use usn_record::Fields;
 
 // How many bytes of the table and of the pool are taken.
-#[derive(Clone, Copy)]
+#[derive(Clone, Copy, Debug, PartialEq, Eq)]
 pub struct Extent {
     pub rows: usize,
     pub names: usize,
 }
 
-// What became of a reply: all of its records are rows now, or why not.
-#[derive(Clone, Copy)]
-pub enum Added {
-    All(Extent),
+// Why a reply is not added.
+#[derive(Clone, Copy, Debug, PartialEq, Eq)]
+pub enum Unfit {
     BadAt(usize),
     ManyFiles,
     LongNames,
-    Failed,
+    // the system failed to read it
+    Unread,
+}
+
+impl From<BadRecord> for Unfit {
+    ghost from_gives = { λ b u. u ≡ BadAt b.at };
+
+    fn from(bad: BadRecord) -> Unfit {
+        Unfit::BadAt(bad.at)
+    }
 }
 
 // ---- A row.
@@ -68,15 +77,11 @@ fn put_row(out: &mut [u8], fields: Fields, size: usize, place: usize)
 fn is_last(id: FileId) -> bool
     ensures { result ≡ eqb (id_number id) (2 ^ 64 - 1) }
 {
-    let last = Key {
-        low: 0xFFFF_FFFF_FFFF_FFFF,
-        high: 0,
-    };
-    is_equal(key_of(id), last)
+    id_number(id) == 0xFFFF_FFFF_FFFF_FFFF
 }
 
 // Adds the records that `s` has from 8 on, if they are whole.
-fn add_records(table: &mut [u8], pool: &mut [u8], s: &[u8], taken: Extent) -> Added
+fn add_records(table: &mut [u8], pool: &mut [u8], s: &[u8], taken: Extent) -> Result<Extent, Unfit>
     requires { (is_whole (records 8 (drop 8 s.now)) ≡ true) × (8 ≤ length s.now) × (length s.now ≤ 65536) × (Inside (length table.old) (length pool.old) taken.rows taken.names) }
     ensures { (result ≡ added_of (length table.old) (length pool.old) 8 taken (record_list (records 8 (drop 8 s.now)))) × (Holds table.old pool.old taken (record_list (records 8 (drop 8 s.now))) table.new pool.new result) × (AddedInside (length table.old) (length pool.old) result) }
 {
@@ -90,13 +95,13 @@ fn add_records(table: &mut [u8], pool: &mut [u8], s: &[u8], taken: Extent) -> Ad
         let name = entry.name;
         let length = entry.length;
         if is_last(id) {
-            return Added::BadAt(at);
+            return Err(Unfit::BadAt(at));
         }
         if table.len() - rows < ROW {
-            return Added::ManyFiles;
+            return Err(Unfit::ManyFiles);
         }
         if pool.len() - names < length {
-            return Added::LongNames;
+            return Err(Unfit::LongNames);
         }
         put_row(&mut table[rows..], fields, length, names);
         let behind = name + length;
@@ -105,17 +110,19 @@ fn add_records(table: &mut [u8], pool: &mut [u8], s: &[u8], taken: Extent) -> Ad
         names += length;
         at = entry.next;
     }
-    Added::All(Extent { rows, names })
+    Ok(Extent { rows, names })
 }
 
 // Adds a reply behind what is taken, or says why not.
-pub fn add_reply(table: &mut [u8], pool: &mut [u8], s: &[u8], taken: Extent) -> Added
+pub fn add_reply(
+    table: &mut [u8],
+    pool: &mut [u8],
+    s: &[u8],
+    taken: Extent,
+) -> Result<Extent, Unfit>
     requires { (length s.now ≤ 65536) × (Inside (length table.old) (length pool.old) taken.rows taken.names) }
     ensures { (result ≡ reply_added (length table.old) (length pool.old) taken (records_of s.now)) × (Holds table.old pool.old taken (record_list (records_of s.now)) table.new pool.new result) × (AddedInside (length table.old) (length pool.old) result) }
 {
-    let walk = reply_walker::walk_reply(s);
-    match walk {
-        Walk::Whole(_, _) => add_records(table, pool, s, taken),
-        Walk::BadAt(place) => Added::BadAt(place),
-    }
+    reply_walker::walk_reply(s)?;
+    add_records(table, pool, s, taken)
 }

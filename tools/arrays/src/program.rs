@@ -1,7 +1,7 @@
 //! The items of all crates by their full paths, and what a name stands for where it is written.
 
 use crate::sizes::number_size;
-use crate::tokens::{closing, find, is_name, join, parts, split};
+use crate::tokens::{closing, find, is_name, is_number, join, parts, split};
 use std::collections::{BTreeMap, BTreeSet};
 use std::path::Path;
 
@@ -64,6 +64,8 @@ pub struct Program {
     uses: BTreeMap<String, Tokens>,
     /// The paths that stand for more than one item, module or `use`.
     twice: BTreeSet<String>,
+    /// The functions of every trait's `impl`, by their names.
+    given: BTreeMap<String, BTreeSet<String>>,
     /// The crates that are named and may not be read yet.
     waiting: BTreeSet<String>,
 }
@@ -219,11 +221,15 @@ impl Program {
             }
             ["impl", .., "}"] => {
                 let open = find(item, 0, &["{"]).ok_or("an impl of nothing")?;
+                let inner = &item[open + 1..item.len() - 1];
+                if item[..open].iter().any(|token| token == "for") {
+                    return self.read_given(scope, &join(&item[..open]), inner);
+                }
                 let name = item[..open]
                     .iter()
                     .find(|token| is_name(token))
                     .ok_or("an impl of no type")?;
-                self.read_items(&module.of_type(name), &item[open + 1..item.len() - 1])
+                self.read_items(&module.of_type(name), inner)
             }
             ["fn", name, ..] => self.add(scope, name, function(item)?),
             ["const", name, ":", ..] => {
@@ -239,12 +245,40 @@ impl Program {
             ["enum", name, "{", .., "}"] => {
                 let mut variants = Vec::new();
                 for variant in parts(&item[3..item.len() - 1], ",") {
-                    variants.push((variant[0].clone(), fields(variant)?));
+                    variants.push((variant[0].clone(), variant_fields(variant)?));
                 }
                 self.add(scope, name, Kind::Enum(variants))
             }
             _ => Err(format!("not understood: {}", join(item))),
         }
+    }
+
+    /// Reads the functions of a trait's `impl`. They have no path of their own: what calls one of their names calls each of that name.
+    fn read_given(&mut self, scope: &Scope, head: &str, items: &[String]) -> Result<(), String> {
+        let mut start = 0;
+        while start < items.len() {
+            let body = find(items, start, &["{"]).ok_or(format!("no end: {head}"))?;
+            let end = closing(items, body)? + 1;
+            let [word, name, ..] = &items[start..end] else {
+                return Err(format!("not understood: {head}"));
+            };
+            if word != "fn" {
+                return Err(format!("not understood: {}", join(&items[start..end])));
+            }
+            let path = format!("{}::<{head}>::{name}", scope.module);
+            let kind = function(&items[start..end])?;
+            let scope = scope.clone();
+            if self
+                .items
+                .insert(path.clone(), Item { kind, scope })
+                .is_some()
+            {
+                return Err(format!("{path} is there twice"));
+            }
+            self.given.entry(name.clone()).or_default().insert(path);
+            start = end;
+        }
+        Ok(())
     }
 
     /// Takes `a::b`, `a::b as c` and `a::{b, self}`.
@@ -342,7 +376,7 @@ fn function(item: &[String]) -> Result<Kind, String> {
     let close = closing(item, open)?;
     let body = find(item, close + 1, &["{"]).ok_or("a function without a body")?;
     let mut types = Vec::new();
-    for parameter in parts(&item[open + 1..close], ",") {
+    for parameter in typed_parts(&item[open + 1..close]) {
         match find(parameter, 0, &[":"]) {
             Some(colon) => types.push(parameter[colon + 1..].to_vec()),
             None if parameter.last().is_some_and(|name| name == "self") => {
@@ -357,7 +391,17 @@ fn function(item: &[String]) -> Result<Kind, String> {
     Ok(Kind::Function(types, item[body..].to_vec()))
 }
 
-/// The types of a struct's or a variant's fields, from its name on.
+/// The types of a variant's fields. One that says its number counts as if it had that, of the widest type.
+fn variant_fields(variant: &[String]) -> Result<Vec<Tokens>, String> {
+    match variant {
+        [_, equals, number] if equals == "=" && is_number(number) => {
+            Ok(vec![vec!["u64".to_string()]])
+        }
+        _ => fields(variant),
+    }
+}
+
+/// The types of a struct's or a variant's fields, from its name on. Of a field in the language of proofs nothing is left but a `pub`.
 fn fields(tokens: &[String]) -> Result<Vec<Tokens>, String> {
     let Some(open) = find(tokens, 0, &["{", "(", "="]) else {
         return Ok(Vec::new());
@@ -370,8 +414,36 @@ fn fields(tokens: &[String]) -> Result<Vec<Tokens>, String> {
         Some(colon) => field[colon + 1..].to_vec(),
         None => without_pub(field).to_vec(),
     };
-    let fields = parts(&tokens[open + 1..tokens.len() - 1], ",");
-    Ok(fields.into_iter().map(type_in).collect())
+    let fields = typed_parts(&tokens[open + 1..tokens.len() - 1]);
+    let fields = fields
+        .into_iter()
+        .filter(|field| !without_pub(field).is_empty());
+    Ok(fields.map(type_in).collect())
+}
+
+/// The parts of a list of fields or parameters that commas separate; one between `<` and `>` is no separator.
+fn typed_parts(tokens: &[String]) -> Vec<&[String]> {
+    let mut typed = Vec::new();
+    let mut start = 0;
+    let mut end = 0;
+    for part in parts(tokens, ",") {
+        end += part.len();
+        let count = |sign: &str| {
+            tokens[start..end]
+                .iter()
+                .filter(|token| *token == sign)
+                .count()
+        };
+        if count("<") == count(">") {
+            typed.push(&tokens[start..end]);
+            start = end + 1;
+        }
+        end += 1;
+    }
+    if start < tokens.len() {
+        typed.push(&tokens[start..]);
+    }
+    typed
 }
 
 // ---- Names.
@@ -450,6 +522,11 @@ impl Program {
         found.ok_or(format!("no source has {}", named.join("::")))
     }
 
+    /// Every function of this name in a trait's `impl`, whatever its trait and type.
+    pub fn given(&self, name: &str) -> impl Iterator<Item = String> + '_ {
+        self.given.get(name).into_iter().flatten().cloned()
+    }
+
     /// Every method of this name, whatever its type.
     pub fn methods(&self, name: &str) -> Vec<String> {
         let owners = self
@@ -457,9 +534,9 @@ impl Program {
             .values()
             .filter_map(|item| item.scope.owner.as_ref());
         let methods: BTreeSet<String> = owners.map(|owner| format!("{owner}::{name}")).collect();
-        methods
+        let methods = methods
             .into_iter()
-            .filter(|path| self.items.contains_key(path))
-            .collect()
+            .filter(|path| self.items.contains_key(path));
+        methods.chain(self.given(name)).collect()
     }
 }

@@ -3,7 +3,9 @@
 //! A function reaches every function, constant and type that its text names, and these what theirs name. The type of a local stands in the
 //! text of its function, or comes from a function, constant or type that is reached, or from a literal. So every array that a reached
 //! function holds, takes or returns by value stands in a reached text, as a type or as a literal. One behind a reference is counted with
-//! them, since a `*` or an index may hold what is there. What cannot be followed or sized is a fault.
+//! them, since a `*` or an index may hold what is there. A function of a trait's `impl` is reached by every call of its name, and `from` by a
+//! `?` too. Of the standard library what is listed below may be named, and its own sources are not followed. What cannot be followed or sized
+//! is a fault.
 
 use crate::code::{let_types, squares, Role, Square};
 use crate::program::{Item, Kind, Program};
@@ -140,6 +142,24 @@ fn code_of(item: &Item) -> &[String] {
 
 // ---- Names.
 
+/// The types and variants of the standard library that are known here; what they hold stands in the text beside them.
+const STANDARD: [&str; 6] = ["Option", "None", "Some", "Result", "Ok", "Err"];
+
+/// The methods of the standard library that are known here, and what makes a number. They call nothing of the sources but the closures in
+/// their arguments, and themselves hold no array above sixteen bytes.
+const METHODS: [&str; 10] = [
+    "chunks_exact",
+    "copy_from_slice",
+    "fill",
+    "from_le_bytes",
+    "iter",
+    "iter_mut",
+    "len",
+    "remainder",
+    "rev",
+    "unwrap",
+];
+
 /// The items that an item's text names.
 fn named_in(place: &Place, item: &Item) -> Result<BTreeSet<String>, String> {
     let mut named = BTreeSet::new();
@@ -157,9 +177,10 @@ fn named_in(place: &Place, item: &Item) -> Result<BTreeSet<String>, String> {
 fn named_in_type(place: &Place, tokens: &[String]) -> Result<Vec<String>, String> {
     let mut found = Vec::new();
     for path in paths(tokens)? {
+        let name = path.names[0].as_str();
         match place.program.resolve(place.scope, &path.names)? {
             Some(item) => found.push(item),
-            None if number_size(&path.names[0]).is_some() => {}
+            None if number_size(name).is_some() || STANDARD.contains(&name) => {}
             None => return Err(format!("no source has {}", path.names[0])),
         }
     }
@@ -174,21 +195,42 @@ fn named_in_code(place: &Place, tokens: &[String]) -> Result<Vec<String>, String
         let is_called = behind == "(" || behind == "!";
         if path.start > 0 && tokens[path.start - 1] == "." {
             if is_called {
-                // of whatever type; a slice has one method
+                // of whatever type
                 let methods = place.program.methods(name);
-                if methods.is_empty() && name != "len" {
+                if methods.is_empty() && !METHODS.contains(&name.as_str()) {
                     return Err(format!("no source has a method {name}"));
                 }
                 found.extend(methods);
             }
             continue;
         }
+        // `T::from(..)`, of whatever types
+        let last = path.names.last().filter(|_| path.names.len() > 1);
+        let given: Vec<String> = last
+            .into_iter()
+            .flat_map(|name| place.program.given(name))
+            .collect();
+        if !given.is_empty() {
+            found.extend(given);
+            found.extend(named_in_type(place, &path.names[..1])?);
+            continue;
+        }
+        if let [number, made] = &path.names[..] {
+            if number_size(number).is_some() && METHODS.contains(&made.as_str()) {
+                continue;
+            }
+        }
         match place.program.resolve(place.scope, &path.names)? {
             Some(item) => found.push(item),
             // a local, or a type of the language behind `as`
             None if !is_called && !name.starts_with(char::is_uppercase) => {}
+            None if STANDARD.contains(&name.as_str()) => {}
             None => return Err(format!("no source has {name}")),
         }
+    }
+    // an error may be turned into another
+    if tokens.iter().any(|token| token == "?") {
+        found.extend(place.program.given("from"));
     }
     Ok(found)
 }

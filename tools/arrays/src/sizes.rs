@@ -198,6 +198,7 @@ pub fn number_size(ty: &str) -> Option<usize> {
         "u16" | "i16" => Some(2),
         "u32" | "i32" | "f32" => Some(4),
         "u64" | "i64" | "f64" | "usize" | "isize" => Some(8),
+        "u128" | "i128" => Some(16),
         _ => None,
     }
 }

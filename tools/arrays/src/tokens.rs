@@ -60,19 +60,22 @@ fn without_attributes(mut tokens: Vec<String>) -> Result<Vec<String>, String> {
     Ok(tokens)
 }
 
-/// The length of what stands behind one of the words that begin a text in the language of proofs: a `use` up to its semicolon, or a
-/// clause, with a name or without, up to its last brace. Its braces are counted as they stand, so it may have no comment and no quoted
-/// brace.
+/// The length of what stands behind one of the words that begin a text in the language of proofs: a `use` or a value, as `ghost a = {..};`,
+/// up to its semicolon, or a clause or field, with a name or without, up to its last brace. Its braces are counted as they stand, so it may
+/// have no comment and no quoted brace.
 fn ghost_text(rest: &str) -> Result<usize, String> {
     let is_use = rest.split_whitespace().next() == Some("use");
-    let head = &rest[..rest.find('{').unwrap_or(rest.len())];
-    if !is_use && head.contains(|c: char| !c.is_alphanumeric() && !c.is_whitespace() && c != '_') {
-        return Err(format!("not understood: {}", head.trim()));
+    let head = rest[..rest.find('{').unwrap_or(rest.len())].trim();
+    let has_value = head.ends_with('=');
+    let name = head.strip_suffix([':', '=']).unwrap_or(head);
+    if !is_use && name.contains(|c: char| !c.is_alphanumeric() && !c.is_whitespace() && c != '_') {
+        return Err(format!("not understood: {head}"));
     }
+    let last = if is_use || has_value { ';' } else { '}' };
     let mut depth = 0;
     let end = rest.find(|c: char| {
         depth += (c == '{') as i32 - (c == '}') as i32;
-        depth == 0 && c == if is_use { ';' } else { '}' }
+        depth == 0 && c == last
     });
     let length = end.ok_or("a contract has no end")? + 1;
     let text = &rest[..length];

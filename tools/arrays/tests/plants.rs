@@ -170,14 +170,14 @@ fn an_array() {
 
 #[test]
 fn a_struct_that_holds_one() {
-    let given = Planted::nothing().field("journal_page", "Given", "    pub spare: [u8; 17],\n");
-    given.finds(&[("journal_page::Given", 17)]);
+    let sent = Planted::nothing().field("journal_page", "Sent", "    pub spare: [u8; 17],\n");
+    sent.finds(&[("journal_page::Sent", 17)]);
     let inner = Planted::nothing().items("journal_page", "pub struct Inner { spare: [u8; 17] }");
     let inner = inner
-        .field("journal_page", "Given", "    pub inner: Inner,\n")
+        .field("journal_page", "Sent", "    pub inner: Inner,\n")
         .search();
     assert!(!inner.passes);
-    let listed = "17 bytes: [u8; 17] in journal_page::Inner, by\n    journal_page::fill journal_page::give\n";
+    let listed = "17 bytes: [u8; 17] in journal_page::Inner, by\n    journal_page::fill journal_read::reply_from\n";
     assert!(inner.listed.contains(listed), "{}", inner.listed);
 }
 
@@ -323,6 +323,38 @@ fn in_a_method() {
 }
 
 #[test]
+fn in_what_a_trait_is_given_for_a_type() {
+    let spare = "let spare = [0u8; 17]; spare[0]";
+    for call in ["Held::from(n).0", "u8::from(n)", "n.from().0", "held(n)?.0"] {
+        planted(&format!(
+            "
+            struct Held(u8);
+            impl From<usize> for Held {{ ghost from_gives = {{ first }}; fn from(n: usize) -> Held {{ let x = {{ {spare} }}; Held(x) }} }}
+            impl<'a> First for &'a [u8] {{ fn from(n: usize) -> u8 {{ {spare} }} fn other(n: usize) -> u8 {{ {spare} }} }}
+            fn held(n: usize) -> Option<Held> {{ None }}
+            fn planted(n: usize) -> u8 {{ {call} }}
+            "
+        ))
+        .finds(&[
+            ("kept_writer::<impl < 'a > First for & 'a [u8]>::from", 17),
+            ("kept_writer::<impl From < usize > for Held>::from", 17),
+        ]);
+    }
+}
+
+#[test]
+fn in_an_option_in_a_result_and_in_a_closure() {
+    planted("fn planted(n: usize) -> Option<[u8; 17]> { None }")
+        .finds(&[("kept_writer::planted", 17)]);
+    planted("fn planted(n: usize, r: Result<u8, [u8; 17]>, m: u8) -> u8 { n }")
+        .finds(&[("kept_writer::planted", 17)]);
+    planted("fn planted(n: usize) -> u8 { found(n).is_empty() } struct Found { r: Result<u8, Held> } struct Held([u8; 17]); impl Found { fn is_empty(self) -> u8 { 0 } } fn found(n: usize) -> Found { found(n) }")
+        .finds(&[("kept_writer::Held", 17)]);
+    planted("fn planted(n: usize) -> u8 { n.iter().unwrap(|x| first(x, [0u8; 17])) } fn first(n: usize, s: [u8; 17]) -> u8 { 0 }")
+        .finds(&[("kept_writer::first", 17)]);
+}
+
+#[test]
 fn in_a_module() {
     planted(
         "
@@ -436,12 +468,14 @@ fn of_types() {
         ("f32", 12),
         ("f64", 24),
         ("usize", 24),
+        ("u128", 48),
         ("bool", 3),
         ("&'static [u8]", 48),
         ("&mut u8", 24),
         ("Pair", 36),
         ("Found", 72),
         ("Other", 18),
+        ("Code", 48),
         ("Held<'static>", 72),
         ("usn_record::Version", 3),
     ] {
@@ -452,6 +486,7 @@ fn of_types() {
             struct Held<'a> {{ s: &'a [u8], at: u8 }}
             enum Found {{ A(u16), B {{ x: u64, y: bool }}, C }}
             enum Other {{ A(u16), B(u8, u8, u8, u8) }}
+            enum Code {{ A = 1, B = 0x8000_0005 }}
             "
         ))
         .finds(&[("kept_writer::planted", size)]);
@@ -508,6 +543,8 @@ fn not_of_slices_indices_comments_and_contracts() {
         ",
     )
     .finds(&[("kept_writer::Key", 2)]);
+    planted("struct Held { pub ghost n: { [u8; 17] }, ghost m: { [u8; 17] }, n: u8 } fn planted(h: [Held; 2]) -> u8 { 0 }")
+        .finds(&[("kept_writer::planted", 2)]);
     planted("fn planted(n: usize) -> u8 { 0 } const N: usize = if ONE == 1 { 3 } else { 4 }; const ONE: usize = 1;")
         .finds(&[]);
 }
@@ -556,8 +593,24 @@ fn what_cannot_be_followed() {
             "not understood: trait First { fn first ( self ) -> u8; }",
         ),
         (
-            "struct Held(u8); impl First for Held { fn first(self) -> u8 { 0 } } fn planted(n: usize) -> u8 { 0 }",
-            "an impl of kept_writer::First, which is no type of that module",
+            "struct Held(u8); impl First for Held { const N: usize = 1; fn first(self) -> u8 { 0 } } fn planted(n: usize) -> u8 { 0 }",
+            "not understood: const N : usize = 1; fn first ( self ) -> u8 { 0 }",
+        ),
+        (
+            "struct Held(u8); impl First for Held { fn first(self) -> u8 { 0 } } fn planted(h: Held) -> u8 { h.first() }",
+            "Self outside of an impl",
+        ),
+        (
+            "struct Held(u8); impl First for Held { fn first() -> u8 { 0 } } fn planted(n: usize) -> u8 { Other::first() }",
+            "no source has Other",
+        ),
+        (
+            "fn planted(n: usize) -> u8 { u8::first(n) }",
+            "no source has u8::first",
+        ),
+        (
+            "fn planted(n: usize) -> u8 { Some::first(n) }",
+            "no source has Some::first",
         ),
         ("fn planted(n: usize) -> u8 { let x: spare = 0; 0 }", "no source has spare"),
         (
@@ -589,8 +642,8 @@ fn what_cannot_be_followed() {
             "not understood: A = [1u8; 17] [3] as isize",
         ),
         (
-            "struct Held { ghost n: { u8 } } fn planted(n: usize) -> u8 { 0 }",
-            "not understood: n:",
+            "struct Held { ghost n + 1: { u8 } } fn planted(n: usize) -> u8 { 0 }",
+            "not understood: n + 1:",
         ),
         (
             "fn planted(n: usize) -> u8 { br#\"C\"#[n] }",

@@ -1,147 +1,88 @@
 use mathlib.Core.Path.{◌≡◌, subst}
-use Prim.Native.Nat.{ℕ, suc, ◌+◌, ◌≤◌, ◌<◌}
+use Rattle.std.specs.Prelude.{Option, Some}
+use Prim.Native.Nat.{ℕ, suc, ◌+◌}
 use native.Mathlib.Omega.{arith}
-use lib.ListN.{length}
-use Rattle.le.specs.Bytes.{Bytes}
 use Rattle.file_table.specs.Steps.{id_at}
-use Rattle.file_table.proofs.Places.{table-whole, table-distinct}
+use Rattle.file_table.proofs.Places.{table-whole}
 use Rattle.file_enumeration.specs.Enumerate.{starting_at}
 use Rattle.file_enumeration.specs.Steps.{Ahead}
 use Rattle.file_enumeration.proofs.Finding.{ahead-next}
-use Rattle.file_enumeration.proofs.Filling.{Turned, fill_start, fill-inside, fill-good, turned, fill_end}
+use Rattle.file_enumeration.proofs.Filling.{Filled, Turned, fill_start, fill-inside, fill-good, turned, fill_end}
+use Rattle.file_enumeration.proofs.fill.Goals.{After-get-id, After-give}
 use Rattle.file_enumeration.proofs.fill.Goals as goal
 
-pub loop-at-init : goal.loop-at-init
-loop-at-init c =
+-- the page so far, with a file at the place
+met : (c : After-get-id) → let a = c.args in let b = a.table.now in let l = c.loop-place in
+    Filled a.v b.pool.now b.bytes.now a.out.now b.right a.q l.out l.next (Some c.in-Some.at) l.done
+met c =
     let a = c.args in
-    (c.requires.0, fill_start a.v a.pool.now a.table.now a.out.now c.requires.0 a.q a.first c.requires.2)
+    let b = a.table.now in
+    let l = c.loop-place in
+    subst (λ (p : Option ℕ). Filled a.v b.pool.now b.bytes.now a.out.now b.right a.q l.out l.next p l.done) c.in-Some.is l.invariant
 
-pub get-id-requires : goal.get-id-requires
-get-id-requires c =
-    let inside : c.loop-at.at + 56 ≤ length c.args.table.now =
+-- what a turn comes to
+turn : (c : After-give) → let a = c.args in let b = a.table.now in let l = c.loop-place in
+    Turned a.v b.pool.now b.bytes.now a.out.now b.right a.q l.out l.next c.in-Some.at l.done c.get-id.result c.give.result c.give.new.out
+turn c =
     let a = c.args in
-    fill-inside a.v a.pool.now a.table.now a.out.now c.loop-at.invariant.0 a.q c.loop-at.out c.loop-at.next c.loop-at.at c.loop-at.done c.loop-at.invariant.1 c.loop-at-test.true in
-    omega (arith, inside)
+    let b = a.table.now in
+    let l = c.loop-place in
+    let i : Filled a.v b.pool.now b.bytes.now a.out.now b.right a.q l.out l.next (Some c.in-Some.at) l.done =
+    subst (λ (p : Option ℕ). Filled a.v b.pool.now b.bytes.now a.out.now b.right a.q l.out l.next p l.done) c.in-Some.is l.invariant in
+    turned a.v b.pool.now b.bytes.now a.out.now b.right a.q l.out l.next c.in-Some.at l.done i c.get-id.result c.get-id.ensures.0 c.get-id.ensures.1 c.give.result c.give.new.out c.give.ensures
 
-pub slice_bounds-give-count : goal.slice_bounds-give-count
-slice_bounds-give-count c =
-    omega (arith, c.loop-at.invariant.1.room, c.loop-at.invariant.1.same)
-
-pub slice_bounds-give-start : goal.slice_bounds-give-start
-slice_bounds-give-start c =
-    omega (arith, c.loop-at.invariant.1.room, c.loop-at.invariant.1.same)
-
-pub slice_bounds-give-end : goal.slice_bounds-give-end
-slice_bounds-give-end c =
-    omega (arith, c.loop-at.invariant.1.room, c.loop-at.invariant.1.same)
-
-pub give-count-requires : goal.give-count-requires
-give-count-requires c =
-    let inside : c.loop-at.at + 56 ≤ length c.args.table.now =
+pub loop-place-init : goal.loop-place-init
+loop-place-init c =
     let a = c.args in
-    fill-inside a.v a.pool.now a.table.now a.out.now c.loop-at.invariant.0 a.q c.loop-at.out c.loop-at.next c.loop-at.at c.loop-at.done c.loop-at.invariant.1 c.loop-at-test.true in
-    let a = c.args in
-    (inside, fill-good a.v a.pool.now a.table.now a.out.now c.loop-at.invariant.0 a.q c.loop-at.out c.loop-at.next c.loop-at.at c.loop-at.done c.loop-at.invariant.1 c.loop-at-test.true)
+    let b = a.table.now in fill_start a.v b.pool.now b.bytes.now a.out.now b.right a.q a.first c.requires
 
-pub shape_of-out-then-count-eq0 : goal.shape_of-out-then-count-eq0
-shape_of-out-then-count-eq0 c =
-    let bytes : Bytes c.args.table.now =
-    λ j. omega (arith, c.type_inv.table j) in
-    let turn : let a = c.args in Turned a.v a.pool.now a.table.now a.out.now c.loop-at.invariant.0 a.q c.loop-at.out c.loop-at.next c.loop-at.at c.loop-at.done c.get-id.result c.give-count.result c.give-count.new.out =
+pub give-requires : goal.give-requires
+give-requires c =
     let a = c.args in
-    turned a.v a.pool.now a.table.now a.out.now c.loop-at.invariant.0 a.q c.loop-at.out c.loop-at.next c.loop-at.at c.loop-at.done c.loop-at.invariant.1 c.loop-at-test.true bytes c.get-id.result c.get-id.ensures.0 c.give-count.result c.give-count.new.out
-    c.give-count.ensures in
-    turn.same
+    let b = a.table.now in
+    let l = c.loop-place in
+    let i = met (goal.at.give-requires c).After-get-id in (
+      fill-inside a.v b.pool.now b.bytes.now a.out.now b.right a.q l.out l.next c.in-Some.at l.done i,
+      fill-good a.v b.pool.now b.bytes.now a.out.now b.right a.q l.out l.next c.in-Some.at l.done i,
+    )
 
-pub returns-then-count-eq0 : goal.returns-then-count-eq0
-returns-then-count-eq0 c =
-    let bytes : Bytes c.args.table.now =
-    λ j. omega (arith, c.type_inv.table j) in
-    let turn : let a = c.args in Turned a.v a.pool.now a.table.now a.out.now c.loop-at.invariant.0 a.q c.loop-at.out c.loop-at.next c.loop-at.at c.loop-at.done c.get-id.result c.give-count.result c.give-count.new.out =
-    let a = c.args in
-    turned a.v a.pool.now a.table.now a.out.now c.loop-at.invariant.0 a.q c.loop-at.out c.loop-at.next c.loop-at.at c.loop-at.done c.loop-at.invariant.1 c.loop-at-test.true bytes c.get-id.result c.get-id.ensures.0 c.give-count.result c.give-count.new.out
-    c.give-count.ensures in
-    turn.cut c.if-count-eq0.true
-
-pub overflow_add-done : goal.overflow_add-done
-overflow_add-done c =
-    let bytes : Bytes c.args.table.now =
-    λ j. omega (arith, c.type_inv.table j) in
-    let turn : let a = c.args in Turned a.v a.pool.now a.table.now a.out.now c.loop-at.invariant.0 a.q c.loop-at.out c.loop-at.next c.loop-at.at c.loop-at.done c.get-id.result c.give-count.result c.give-count.new.out =
-    let a = c.args in
-    turned a.v a.pool.now a.table.now a.out.now c.loop-at.invariant.0 a.q c.loop-at.out c.loop-at.next c.loop-at.at c.loop-at.done c.loop-at.invariant.1 c.loop-at-test.true bytes c.get-id.result c.get-id.ensures.0 c.give-count.result c.give-count.new.out
-    c.give-count.ensures in
-    omega (arith, turn.room)
+pub returns-in_default-give : goal.returns-in_default-give
+returns-in_default-give c =
+    (turn (goal.at.returns-in_default-give c).After-give).cut _ c.in_default-give.is
 
 pub overflow_add-next : goal.overflow_add-next
 overflow_add-next c =
-    let bytes : Bytes c.args.table.now =
-    λ j. omega (arith, c.type_inv.table j) in
-    let turn : let a = c.args in Turned a.v a.pool.now a.table.now a.out.now c.loop-at.invariant.0 a.q c.loop-at.out c.loop-at.next c.loop-at.at c.loop-at.done c.get-id.result c.give-count.result c.give-count.new.out =
-    let a = c.args in
-    turned a.v a.pool.now a.table.now a.out.now c.loop-at.invariant.0 a.q c.loop-at.out c.loop-at.next c.loop-at.at c.loop-at.done c.loop-at.invariant.1 c.loop-at-test.true bytes c.get-id.result c.get-id.ensures.0 c.give-count.result c.give-count.new.out
-    c.give-count.ensures in
-    omega (arith, turn.successor)
-
-pub overflow_add-at : goal.overflow_add-at
-overflow_add-at c =
-    let inside : c.loop-at.at + 56 ≤ length c.args.table.now =
-    let a = c.args in
-    fill-inside a.v a.pool.now a.table.now a.out.now c.loop-at.invariant.0 a.q c.loop-at.out c.loop-at.next c.loop-at.at c.loop-at.done c.loop-at.invariant.1 c.loop-at-test.true in
-    omega (arith, inside)
+    omega (arith, (turn (goal.at.overflow_add-next c).After-give).successor)
 
 -- the search goes on behind the row
-pub first_file-at-requires : goal.first_file-at-requires
-first_file-at-requires c =
-    let inside : c.loop-at.at + 56 ≤ length c.args.table.now =
+pub first_file-place-requires : goal.first_file-place-requires
+first_file-place-requires c =
     let a = c.args in
-    fill-inside a.v a.pool.now a.table.now a.out.now c.loop-at.invariant.0 a.q c.loop-at.out c.loop-at.next c.loop-at.at c.loop-at.done c.loop-at.invariant.1 c.loop-at-test.true in
-    let bytes : Bytes c.args.table.now =
-    λ j. omega (arith, c.type_inv.table j) in
-    let turn : let a = c.args in Turned a.v a.pool.now a.table.now a.out.now c.loop-at.invariant.0 a.q c.loop-at.out c.loop-at.next c.loop-at.at c.loop-at.done c.get-id.result c.give-count.result c.give-count.new.out =
-    let a = c.args in
-    turned a.v a.pool.now a.table.now a.out.now c.loop-at.invariant.0 a.q c.loop-at.out c.loop-at.next c.loop-at.at c.loop-at.done c.loop-at.invariant.1 c.loop-at-test.true bytes c.get-id.result c.get-id.ensures.0 c.give-count.result c.give-count.new.out
-    c.give-count.ensures in
-    let a = c.args in
-    let n : suc (id_at a.table.now c.loop-at.at) ≡ c.get-id.result + 1 = omega (arith, turn.own) in
-    let m = c.loop-at.invariant.1.leads.2 in
-    let w = table-whole a.pool.now a.table.now c.requires.0 in (
-      w,
-      table-distinct a.pool.now a.table.now c.requires.0,
-      λ o. (
-        inside,
-        omega (arith, m),
-        c.requires.1 o,
-        subst (λ (x : ℕ). Ahead (starting_at a.q x) a.table.now (c.loop-at.at + 56)) n (ahead-next a.q a.table.now w (c.requires.1 o) c.loop-at.at m c.loop-at-test.true),
-      ),
+    let b = a.table.now in
+    let l = c.loop-place in
+    let t = turn (goal.at.first_file-place-requires c).After-give in
+    let at = c.in-Some.at in
+    let n : suc (id_at b.bytes.now at) ≡ c.get-id.result + 1 = omega (arith, t.own) in
+    let m = (met (goal.at.first_file-place-requires c).After-get-id).leads.2 in
+    let w = table-whole b.pool.now b.bytes.now b.right in
+    λ o. (
+      t.inside,
+      omega (arith, m),
+      subst (λ (x : ℕ). Ahead (starting_at a.q x) b.bytes.now (at + 56)) n (ahead-next a.q b.bytes.now w (b.rises o) at m (omega (arith, t.inside))),
     )
 
-pub loop-at-smaller : goal.loop-at-smaller
-loop-at-smaller c =
-    let bytes : Bytes c.args.table.now =
-    λ j. omega (arith, c.type_inv.table j) in
-    let turn : let a = c.args in Turned a.v a.pool.now a.table.now a.out.now c.loop-at.invariant.0 a.q c.loop-at.out c.loop-at.next c.loop-at.at c.loop-at.done c.get-id.result c.give-count.result c.give-count.new.out =
-    let a = c.args in
-    turned a.v a.pool.now a.table.now a.out.now c.loop-at.invariant.0 a.q c.loop-at.out c.loop-at.next c.loop-at.at c.loop-at.done c.loop-at.invariant.1 c.loop-at-test.true bytes c.get-id.result c.get-id.ensures.0 c.give-count.result c.give-count.new.out
-    c.give-count.ensures in
-    let z : 0 < c.give-count.result = omega (arith, c.if-count-eq0.false) in
-    omega (arith, z, turn.room)
+pub loop-place-smaller : goal.loop-place-smaller
+loop-place-smaller c =
+    omega (arith, (turn (goal.at.loop-place-smaller c).After-give).room _ c.in-Ok.is)
 
-pub loop-at-preserved : goal.loop-at-preserved
-loop-at-preserved c =
-    let bytes : Bytes c.args.table.now =
-    λ j. omega (arith, c.type_inv.table j) in
-    let turn : let a = c.args in Turned a.v a.pool.now a.table.now a.out.now c.loop-at.invariant.0 a.q c.loop-at.out c.loop-at.next c.loop-at.at c.loop-at.done c.get-id.result c.give-count.result c.give-count.new.out =
-    let a = c.args in
-    turned a.v a.pool.now a.table.now a.out.now c.loop-at.invariant.0 a.q c.loop-at.out c.loop-at.next c.loop-at.at c.loop-at.done c.loop-at.invariant.1 c.loop-at-test.true bytes c.get-id.result c.get-id.ensures.0 c.give-count.result c.give-count.new.out
-    c.give-count.ensures in
-    (c.loop-at.invariant.0, turn.onward c.if-count-eq0.false c.first_file-at.result c.first_file-at.ensures)
-
-pub shape_of-out : goal.shape_of-out
-shape_of-out c =
-    c.loop-at.invariant.1.same
+pub loop-place-preserved : goal.loop-place-preserved
+loop-place-preserved c =
+    (turn (goal.at.loop-place-preserved c).After-give).onward _ c.in-Ok.is c.first_file-place.result c.first_file-place.ensures
 
 pub returns : goal.returns
 returns c =
     let a = c.args in
-    fill_end a.v a.pool.now a.table.now a.out.now c.loop-at.invariant.0 a.q c.loop-at.out c.loop-at.next c.loop-at.at c.loop-at.done c.loop-at.invariant.1 c.loop-at-test.false
+    let b = a.table.now in
+    let l = c.loop-place in
+    fill_end a.v b.pool.now b.bytes.now a.out.now b.right a.q l.out l.next l.done
+    (subst (λ (p : Option ℕ). Filled a.v b.pool.now b.bytes.now a.out.now b.right a.q l.out l.next p l.done) c.in_default.is l.invariant)

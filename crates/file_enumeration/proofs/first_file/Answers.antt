@@ -1,19 +1,13 @@
--- `first_file` meets its contract: either way finds it.
+-- `first_file` meets its contract: by the order of the table.
+use Rattle.file_table.proofs.Places.{table-whole, table-distinct}
 use Rattle.file_enumeration.proofs.first_file.Goals as goal
 
 pub next_file-requires : goal.next_file-requires
 next_file-requires c =
-    let o = c.requires.2 c.if-ordered.true in
-    (c.requires.0, o.0, o.1, o.2, o.3)
-
-pub returns-then-ordered : goal.returns-then-ordered
-returns-then-ordered c =
-    c.next_file.ensures
+    let t = c.args.table.now in
+    let r = c.requires c.in-Rising.is in
+    (table-whole t.pool.now t.bytes.now t.right, r.0, r.1, t.rises c.in-Rising.is, r.2)
 
 pub lowest_file-requires : goal.lowest_file-requires
 lowest_file-requires c =
-    (c.requires.0, c.requires.1)
-
-pub returns : goal.returns
-returns c =
-    c.lowest_file.ensures
+    let t = c.args.table.now in (table-whole t.pool.now t.bytes.now t.right, table-distinct t.pool.now t.bytes.now t.right)

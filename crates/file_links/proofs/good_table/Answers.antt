@@ -19,18 +19,18 @@ returns-then-shorts-n c =
 pub loop-i-init : goal.loop-i-init
 unfolding good_table
 loop-i-init c =
-    (omega arith, refl, c.if-lengths-n.false, c.if-shorts-n.false, rw (eq-eqb _ _ c.if-lengths-n.false, eq-eqb _ _ c.if-shorts-n.false))
+    (refl, c.if-lengths-n.false, c.if-shorts-n.false, rw (eq-eqb _ _ c.if-lengths-n.false, eq-eqb _ _ c.if-shorts-n.false))
 
 pub returns-then-not-good_link : goal.returns-then-not-good_link
 returns-then-not-good_link c =
     let v = c.loop-i.invariant in
-    good-from-bad _ _ _ _ v.2 v.3 c.loop-i.i (omega arith) _ c.good_link.ensures (not_from_false _ c.if-not-good_link.true) v.4
+    good-from-bad _ _ _ _ v.1 v.2 c.loop-i.i (omega arith) _ c.good_link.ensures (not_from_false _ c.if-not-good_link.true) v.3
 
 pub loop-i-preserved : goal.loop-i-preserved
 loop-i-preserved c =
     let v = c.loop-i.invariant in
-    (omega arith, refl, v.2, v.3, good-from-good _ _ _ _ v.2 v.3 c.loop-i.i (omega arith) _ c.good_link.ensures (not_from_true _ c.if-not-good_link.false) v.4)
+    (refl, v.1, v.2, good-from-good _ _ _ _ v.1 v.2 c.loop-i.i (omega arith) _ c.good_link.ensures (not_from_true _ c.if-not-good_link.false) v.3)
 
 pub returns : goal.returns
 returns c =
-    good-from-end _ _ _ _ c.loop-i.i (omega arith) c.loop-i.invariant.4
+    good-from-end _ _ _ _ c.loop-i.i (omega arith) c.loop-i.invariant.3

@@ -1,59 +1,42 @@
-use mathlib.Core.Path.{◌≡◌, refl, sym, ap, ◌∙◌, subst}
+use mathlib.Core.Path.{◌≡◌, refl, sym, ap, ◌∙◌}
 use mathlib.Core.Bool.{Bool, cond}
-use mathlib.Core.Option.{some}
-use Prim.Native.Nat.{ℕ, ◌+◌}
+use Rattle.std.specs.Prelude.{Some}
+use Prim.Native.Nat.{◌+◌}
 use native.Mathlib.Omega.{arith}
-use lib.Dec.{eqb}
-use lib.ListN.{length, drop}
-use Rattle.file_table.specs.Table.{key_number, rows, find}
-use Rattle.file_table.specs.Steps.{row_at, Stands}
-use Rattle.file_table.proofs.Rows.{id-number}
-use Rattle.file_table.proofs.Finding.{find-end, find-next, stands_here, stands-none}
+use lib.ListN.{drop}
+use Rattle.file_table.specs.Table.{rows, find}
+use Rattle.file_table.specs.Steps.{row_at}
+use Rattle.file_table.proofs.Finding.{find-end, find-next}
+use Rattle.file_table.proofs.find_any.Goals.{After-is_at}
 use Rattle.file_table.proofs.find_any.Goals as goal
+
+-- the row at the place has the id, or it is looked for behind
+met : (c : After-is_at) → (b : Bool) → c.is_at.result ≡ b → let a = c.args in
+    find a.id (rows a.table.now) ≡ cond b (Some (row_at a.table.now c.loop-at.at)) (find a.id (rows (drop (c.loop-at.at + 56) a.table.now)))
+met c b e =
+    let a = c.args in
+    c.loop-at.invariant.2 ∙ find-next a.id a.table.now c.loop-at.at (omega (arith, c.loop-at-test.true, c.loop-at.invariant.1, c.requires))
+    ∙ ap (λ (x : Bool). cond x (Some (row_at a.table.now c.loop-at.at)) (find a.id (rows (drop (c.loop-at.at + 56) a.table.now)))) (sym c.is_at.ensures ∙ e)
 
 pub loop-at-init : goal.loop-at-init
 loop-at-init c =
     (omega arith, omega arith, refl)
 
 -- a row stands at the place
-pub key_at-requires : goal.key_at-requires
-key_at-requires c =
-    omega (arith, c.if-table-at.false, c.loop-at.invariant.1, c.requires)
+pub is_at-requires : goal.is_at-requires
+is_at-requires c =
+    omega (arith, c.loop-at-test.true, c.loop-at.invariant.1, c.requires)
 
-pub overflow_add-at : goal.overflow_add-at
-overflow_add-at c =
-    omega (arith, c.if-table-at.false)
-
-pub loop-at-smaller : goal.loop-at-smaller
-loop-at-smaller c =
-    omega (arith, c.if-table-at.false)
+pub returns-then-is_at : goal.returns-then-is_at
+returns-then-is_at c =
+    let m = met (goal.at.returns-then-is_at c).After-is_at _ c.if-is_at.true in
+    (m, omega (arith, c.loop-at-test.true, c.loop-at.invariant.1, c.requires), c.loop-at.invariant.1)
 
 pub loop-at-preserved : goal.loop-at-preserved
 loop-at-preserved c =
-    let met : (b : Bool) → c.is_equal.result ≡ b → let a = c.args in find (key_number a.key) (rows a.table.now) ≡ cond b (some (row_at a.table.now c.loop-at.at)) (find (key_number a.key) (rows (drop (c.loop-at.at + 56) a.table.now))) =
-    λ b e. let a = c.args in
-    let n = key_number a.key in
-    let q : eqb (key_number c.key_at.result) n ≡ b = sym c.is_equal.ensures ∙ e in
-    c.loop-at.invariant.2 ∙ find-next n a.table.now c.loop-at.at (omega (arith, c.if-table-at.false, c.loop-at.invariant.1, c.requires))
-    ∙ ap (λ (x : Bool). cond x (some (row_at a.table.now c.loop-at.at)) (find n (rows (drop (c.loop-at.at + 56) a.table.now))))
-    (ap (λ (i : ℕ). eqb i n) (sym (c.key_at.ensures ∙ id-number a.table.now c.loop-at.at)) ∙ q) in
-    (omega (arith, c.if-table-at.false, c.loop-at.invariant.1, c.requires), omega (arith, c.loop-at.invariant.1), met _ c.if-is_equal.false)
+    let m = met (goal.at.loop-at-preserved c).After-is_at _ c.if-is_at.false in
+    (omega (arith, c.loop-at-test.true, c.loop-at.invariant.1, c.requires), omega (arith, c.loop-at.invariant.1), m)
 
-pub returns-then-table-at : goal.returns-then-table-at
-returns-then-table-at c =
-    let a = c.args in
-    let e : c.loop-at.at ≡ length a.table.now = omega (arith, c.loop-at.invariant.0, c.if-table-at.true) in
-    subst (Stands (key_number a.key) a.table.now) (sym e)
-    (stands-none (key_number a.key) a.table.now c.requires (c.loop-at.invariant.2 ∙ find-end (key_number a.key) a.table.now c.loop-at.at c.if-table-at.true))
-
-pub returns-then-is_equal : goal.returns-then-is_equal
-returns-then-is_equal c =
-    let met : (b : Bool) → c.is_equal.result ≡ b → let a = c.args in find (key_number a.key) (rows a.table.now) ≡ cond b (some (row_at a.table.now c.loop-at.at)) (find (key_number a.key) (rows (drop (c.loop-at.at + 56) a.table.now))) =
-    λ b e. let a = c.args in
-    let n = key_number a.key in
-    let q : eqb (key_number c.key_at.result) n ≡ b = sym c.is_equal.ensures ∙ e in
-    c.loop-at.invariant.2 ∙ find-next n a.table.now c.loop-at.at (omega (arith, c.if-table-at.false, c.loop-at.invariant.1, c.requires))
-    ∙ ap (λ (x : Bool). cond x (some (row_at a.table.now c.loop-at.at)) (find n (rows (drop (c.loop-at.at + 56) a.table.now))))
-    (ap (λ (i : ℕ). eqb i n) (sym (c.key_at.ensures ∙ id-number a.table.now c.loop-at.at)) ∙ q) in
-    let a = c.args in
-    stands_here (key_number a.key) a.table.now c.loop-at.at (omega (arith, c.if-table-at.false, c.loop-at.invariant.1, c.requires)) c.loop-at.invariant.1 (met _ c.if-is_equal.true)
+pub returns : goal.returns
+returns c =
+    c.loop-at.invariant.2 ∙ find-end c.args.id c.args.table.now c.loop-at.at c.loop-at-test.false

@@ -1,8 +1,6 @@
-use mathlib.Core.Path.{◌≡◌, sym, ◌∙◌}
+use mathlib.Core.Path.{◌≡◌, ◌∙◌}
 use Prim.Native.Nat.{ℕ, ◌+◌, ◌-◌, ◌*◌, ◌/◌}
 use native.Mathlib.Omega.{arith}
-use borrow.Author.Tests.{ltb-true, ltb-false}
-use Rattle.file_table.specs.Table.{key_number}
 use Rattle.file_table.specs.Steps.{id_at}
 use Rattle.file_table.proofs.Rows.{id-number}
 use Rattle.file_table.proofs.Finding.{between-all, between_none, between-upper, between_lower}
@@ -32,16 +30,16 @@ pub overflow_add-low : goal.overflow_add-low
 overflow_add-low c =
     omega (arith, c.loop-low-test.true)
 
-pub loop-low-smaller-then-is_lower : goal.loop-low-smaller-then-is_lower
-loop-low-smaller-then-is_lower c =
+pub loop-low-smaller-then-key_at-id : goal.loop-low-smaller-then-key_at-id
+loop-low-smaller-then-key_at-id c =
     omega (arith, c.loop-low-test.true)
 
-pub loop-low-preserved-then-is_lower : goal.loop-low-preserved-then-is_lower
-loop-low-preserved-then-is_lower c =
+pub loop-low-preserved-then-key_at-id : goal.loop-low-preserved-then-key_at-id
+loop-low-preserved-then-key_at-id c =
     let middle : ℕ = c.loop-low.low + (c.loop-low.high - c.loop-low.low) / 2 in
-    let e : key_number c.key_at.result ≡ id_at c.args.table.now (middle * 56) = c.key_at.ensures ∙ id-number c.args.table.now (middle * 56) in
-    between-upper (key_number c.args.key) c.args.table.now c.requires.1 c.loop-low.low c.loop-low.high middle c.loop-low.invariant (omega arith) (omega (arith, c.loop-low-test.true))
-    (omega (arith, e, ltb-true (key_number c.key_at.result) (key_number c.args.key) (sym c.is_lower.ensures ∙ c.if-is_lower.true)))
+    let e : c.key_at.result ≡ id_at c.args.table.now (middle * 56) = c.key_at.ensures ∙ id-number c.args.table.now (middle * 56) in
+    between-upper c.args.id c.args.table.now c.requires.1 c.loop-low.low c.loop-low.high middle c.loop-low.invariant (omega arith) (omega (arith, c.loop-low-test.true))
+    (omega (arith, e, c.if-key_at-id.true))
 
 pub loop-low-smaller : goal.loop-low-smaller
 loop-low-smaller c =
@@ -50,9 +48,9 @@ loop-low-smaller c =
 pub loop-low-preserved : goal.loop-low-preserved
 loop-low-preserved c =
     let middle : ℕ = c.loop-low.low + (c.loop-low.high - c.loop-low.low) / 2 in
-    let e : key_number c.key_at.result ≡ id_at c.args.table.now (middle * 56) = c.key_at.ensures ∙ id-number c.args.table.now (middle * 56) in
-    between_lower (key_number c.args.key) c.args.table.now c.requires.1 c.loop-low.low c.loop-low.high middle c.loop-low.invariant (omega arith) (omega (arith, c.loop-low-test.true)) c.requires.0
-    (omega (arith, e, ltb-false (key_number c.key_at.result) (key_number c.args.key) (sym c.is_lower.ensures ∙ c.if-is_lower.false)))
+    let e : c.key_at.result ≡ id_at c.args.table.now (middle * 56) = c.key_at.ensures ∙ id-number c.args.table.now (middle * 56) in
+    between_lower c.args.id c.args.table.now c.requires.1 c.loop-low.low c.loop-low.high middle c.loop-low.invariant (omega arith) (omega (arith, c.loop-low-test.true)) c.requires.0
+    (omega (arith, e, c.if-key_at-id.false))
 
 pub overflow_mul-result : goal.overflow_mul-result
 overflow_mul-result c =
@@ -60,4 +58,4 @@ overflow_mul-result c =
 
 pub returns : goal.returns
 returns c =
-    between_none (key_number c.args.key) c.args.table.now c.loop-low.low c.loop-low.high c.loop-low.invariant c.loop-low-test.false
+    between_none c.args.id c.args.table.now c.loop-low.low c.loop-low.high c.loop-low.invariant c.loop-low-test.false

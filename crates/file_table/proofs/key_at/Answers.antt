@@ -7,4 +7,4 @@ use Rattle.file_table.proofs.key_at.Goals as goal
 
 pub returns : goal.returns
 returns c =
-    ap₂ (λ (low high : ℕ). low + 2 ^ 64 * high) c.get.ensures.0 c.get-2.ensures.0 ∙ sym (number-split c.args.table.now c.args.at 8 8 (omega (arith, c.requires)))
+    ap₂ (λ (low high : ℕ). low + 2 ^ 64 * high) c.get-low.ensures.0 c.get-high.ensures.0 ∙ sym (number-split c.args.table.now c.args.at 8 8 (omega (arith, c.requires)))

@@ -7,6 +7,7 @@ use Rattle.le.proofs.Tail.{back}
 use Rattle.file_ids.specs.Ids.{id_number}
 use Rattle.file_table.specs.Table.{rows}
 use Rattle.file_table.specs.Steps.{row_at}
+use Rattle.file_table.proofs.Rows.{id-number}
 use Rattle.usn_listing.proofs.Writing.{same_back}
 use Rattle.path_listing.proofs.Ways.{row-id, row_line}
 use Rattle.path_listing.proofs.put_path_line.Goals as goal
@@ -27,7 +28,7 @@ pub put_way-end-requires : goal.put_way-end-requires
 put_way-end-requires c =
     let spaced_same : length ((set c.put_id.new.out 32 32)) ≡ length ((c.args.out.now)) =
     length-set c.put_id.new.out 32 32 ∙ c.put_id.auto.out in
-    (c.requires.0, c.requires.1, simp (length-take, length-drop) (omega (arith, spaced_same)))
+    simp (length-take, length-drop) (omega (arith, spaced_same))
 
 pub bounds-out-end : goal.bounds-out-end
 bounds-out-end c =
@@ -47,7 +48,7 @@ shape_of-out c =
 
 pub returns : goal.returns
 returns c =
-    let table = c.args.table.now in
-    let e = row-id table c.id_from-id.result c.args.at (λ j. omega (arith, c.type_inv.table j)) c.id_from-id.ensures in
-    row_line c.args.pool.now (rows table) (id_number c.args.root) (row_at table c.args.at) (id_number c.id_from-id.result) c.put_way-end.result _ c.args.out.now
-    c.put_id.new.out c.put_way-end.new.out c.requires.4 c.key_of.ensures e c.put_id.ensures c.put_way-end.ensures
+    let t = c.args.table.now in
+    row_line t.pool.now (rows t.bytes.now) (id_number c.args.root) (row_at t.bytes.now c.args.at) c.key_at.result c.put_way-end.result c.id_from-id.result c.args.out.now
+    c.put_id.new.out c.put_way-end.new.out c.requires.2 (row-id t.bytes.now c.id_from-id.result c.args.at c.key_at.result c.key_at.type_inv c.key_at.ensures c.id_from-id.ensures)
+    (c.key_at.ensures ∙ id-number t.bytes.now c.args.at) c.put_id.ensures c.put_way-end.ensures

@@ -1,16 +1,28 @@
--- `delete_reparse_point` meets its contract: the refusal of the checks, or what `clear_point` leaves.
-use mathlib.Core.Path.{sym, ◌∙◌}
-use Rattle.status.proofs.Checking.{told-refused, told-passed}
+-- `delete_reparse_point` meets its contract: the refusal of the checks or of the post, or no point.
+use mathlib.Core.Path.{refl, sym, ◌∙◌}
+use Rattle.std.proofs.lemmas.Result.{err_from_is_err_and}
 use Rattle.reparse_update.specs.declared.Update.TheVariants.{Delete}
-use Rattle.reparse_update.proofs.Updating.{check-refuses, clears-so}
+use Rattle.reparse_update.proofs.Updating.{check-refuses, post-refuses, post-takes}
 use Rattle.reparse_update.proofs.delete_reparse_point.Goals as goal
 
-pub returns-in-Refused : goal.returns-in-Refused
-returns-in-Refused c =
+pub returns-in_err-judge_update : goal.returns-in_err-judge_update
+returns-in_err-judge_update c =
     let a = c.args in
-    check-refuses Delete a.v a.ring.now a.f a.store.now a.c a.name.now a.input.now _ (told-refused _ _ (sym c.in-Refused.is ∙ c.judge_update-call.ensures))
+    let p = err_from_is_err_and c.from_residual.result c.from_residual.ensures.1 in
+    rw (p.1, p.2)
+    (check-refuses Delete a.v.now a.ring.now a.f.now a.store.now a.c a.name.now a.input.now _
+    (sym c.in_err-judge_update.was ∙ c.judge_update.ensures))
 
-pub returns-in-Passed : goal.returns-in-Passed
-returns-in-Passed c =
+pub returns-in_err-post_point : goal.returns-in_err-post_point
+returns-in_err-post_point c =
     let a = c.args in
-    clears-so a.v a.ring.now a.f a.store.now a.c a.name.now a.input.now (told-passed _ (sym c.in-Passed.is ∙ c.judge_update-call.ensures)) _ _ c.clear_point.ensures
+    let p = err_from_is_err_and c.from_residual-in_err-post_point.result c.from_residual-in_err-post_point.ensures.1 in
+    rw (p.1, p.2)
+    (post-refuses Delete a.v.now a.ring.now a.f.now a.store.now a.c a.name.now a.input.now
+    (sym c.in_ok-judge_update.was ∙ c.judge_update.ensures) _ _ _ _ c.post_point.ensures _ c.in_err-post_point.was)
+
+pub returns : goal.returns
+returns c =
+    let a = c.args in
+    post-takes Delete a.v.now a.ring.now a.f.now a.store.now a.c a.name.now a.input.now
+    (sym c.in_ok-judge_update.was ∙ c.judge_update.ensures) _ _ _ _ c.post_point.ensures c.in_ok-post_point.was _ _ _ _ refl refl

@@ -1,17 +1,7 @@
-use mathlib.Core.Path.{refl, sym, ◌∙◌}
 use native.Mathlib.Omega.{arith}
-use Rattle.update_steps.proofs.Posting.{updated-end, updated-next}
+use Rattle.update_steps.proofs.Posting.{updated_next}
 use Rattle.update_steps.proofs.post_changes.Goals as goal
-
-pub loop-i-init : goal.loop-i-init
-loop-i-init g c =
-    (refl, refl)
 
 pub loop-i-preserved : goal.loop-i-preserved
 loop-i-preserved g c =
-    let a = c.args in
-    (updated-next (record { volume = c.loop-i.w; ring = c.loop-i.ring }) c.loop-i.i a.to _ (omega arith) c.post_change-w.ensures ∙ c.loop-i.invariant.0, omega arith)
-
-pub returns : goal.returns
-returns g c =
-    sym (updated-end (record { volume = c.loop-i.w; ring = c.loop-i.ring }) c.loop-i.i c.args.to (omega arith)) ∙ c.loop-i.invariant.0
+    updated_next (record { volume = c.loop-i.v; ring = c.loop-i.ring }) _ c.loop-i.i c.args.to c.loop-i.invariant _ (omega arith) c.post_change.ensures

@@ -4,8 +4,5 @@ use Prim.Native.Nat.{◌-◌}
 use Rattle.update_steps.specs.Service.{reads_to}
 use Rattle.update_steps.proofs.read_on.Given as goal
 
-abbrev pub invariant-loop-i : goal.invariant-loop-i
-invariant-loop-i g l = reads_to (16 - l.i) l.v l.ring l.id l.at ≡ reads_to 16 l.v l.ring l.id l.start
-
-abbrev pub decreases-loop-i : goal.decreases-loop-i
-decreases-loop-i g l = 16 - l.i
+abbrev pub invariant-loop : goal.invariant-loop
+invariant-loop g l = reads_to (16 - l.counter) l.v l.ring l.id l.at ≡ reads_to 16 l.v l.ring l.id l.start

@@ -7,7 +7,7 @@ use Rattle.usnpaths.proofs.add_arguments.Given as goal
 
 abbrev pub invariant-loop-i : goal.invariant-loop-i
 invariant-loop-i g l =
-    (length l.table ≡ length l.initial.table) × (length l.pool ≡ length l.initial.pool) × (Inside (length l.initial.table) (length l.initial.pool) l.taken.rows l.taken.names)
+    (length l.table ≡ length l.initial.table) × (length l.pool ≡ length l.initial.pool) × (Inside (length l.initial.table) (length l.initial.pool) l.taken.extent.rows l.taken.extent.names)
 
 abbrev pub decreases-loop-i : goal.decreases-loop-i
 decreases-loop-i g l = l.count - l.i

@@ -6,7 +6,7 @@ use Rattle.usnpaths.proofs.show_rows.Given as goal
 
 abbrev pub invariant-loop-at : goal.invariant-loop-at
 invariant-loop-at g l =
-    (l.at % 56 ≡ 0) × (l.at ≤ length l.table) × (length l.line ≡ length l.initial.line)
+    (l.at % 56 ≡ 0) × (l.at ≤ length l.table.bytes.now) × (length l.line ≡ length l.initial.line)
 
 abbrev pub decreases-loop-at : goal.decreases-loop-at
-decreases-loop-at g l = length l.table - l.at
+decreases-loop-at g l = length l.table.bytes.now - l.at

@@ -1,25 +1,27 @@
+use mathlib.Core.Path.{sym, ◌∙◌}
 use native.Mathlib.Omega.{arith}
-use Rattle.file_table.specs.Table.{key_number}
-use Rattle.usnpaths.proofs.Digits.{high_small, read-start, read_more, read-bad, read-end}
+use Rattle.usnpaths.proofs.Digits.{digit-small, has_room, read_more, read-bad, read-end}
 use Rattle.usnpaths.proofs.root.read_digits.Goals as goal
 
-pub loop-i-init : goal.loop-i-init
-loop-i-init c =
-    read-start c.args.s.now
+-- a digit's room is left
+pub overflow_mul-id : goal.overflow_mul-id
+overflow_mul-id c =
+    let l = c.loop-b in let room = has_room l.id l.b-index l.invariant.fits (omega (arith, c.requires, c.loop-b-test.true)) in omega (arith, room)
 
-pub returns-then-d-ge16 : goal.returns-then-d-ge16
-returns-then-d-ge16 c =
-    read-bad c.args.s.now c.loop-i.i (key_number c.loop-i.key) c.digit-d.result c.loop-i.invariant c.loop-i-test.true c.digit-d.ensures c.if-d-ge16.true
+pub overflow_add-id : goal.overflow_add-id
+overflow_add-id c =
+    let l = c.loop-b in
+    let room = has_room l.id l.b-index l.invariant.fits (omega (arith, c.requires, c.loop-b-test.true)) in
+    omega (arith, room, digit-small _ _ (sym c.digit.ensures ∙ c.in_ok-id.was))
 
-pub shifted-key-requires : goal.shifted-key-requires
-shifted-key-requires c =
-    (omega arith, high_small c.loop-i.key.low c.loop-i.key.high c.loop-i.i c.loop-i.invariant.fits (omega arith))
+pub returns-in_err-id : goal.returns-in_err-id
+returns-in_err-id c =
+    let l = c.loop-b in rw c.from_residual.ensures (read-bad c.args.s.now l.b-index l.id l.invariant c.loop-b-test.true (sym c.digit.ensures ∙ c.in_err-id.was))
 
-pub loop-i-preserved : goal.loop-i-preserved
-loop-i-preserved c =
-    read_more c.args.s.now c.loop-i.i (key_number c.loop-i.key) c.digit-d.result c.loop-i.invariant c.loop-i-test.true c.digit-d.ensures (omega arith)
-    (key_number c.shifted-key.result) c.shifted-key.ensures
+pub loop-b-preserved : goal.loop-b-preserved
+loop-b-preserved c =
+    let l = c.loop-b in read_more c.args.s.now l.b-index l.id l.invariant c.loop-b-test.true c.in_ok-id.field-0 (sym c.digit.ensures ∙ c.in_ok-id.was)
 
 pub returns : goal.returns
 returns c =
-    read-end c.args.s.now c.loop-i.i (key_number c.loop-i.key) c.loop-i.invariant c.loop-i-test.false
+    let l = c.loop-b in read-end c.args.s.now l.b-index l.id l.invariant c.loop-b-test.false

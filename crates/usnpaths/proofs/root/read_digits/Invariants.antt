@@ -1,12 +1,6 @@
--- `read_digits` meets its contract: before each turn the key is the number of the digits before i.
-use Prim.Native.Nat.{◌-◌}
-use lib.ListN.{length}
-use Rattle.file_table.specs.Table.{key_number}
+-- `read_digits` meets its contract: before each turn the id is the number of the digits before.
 use Rattle.usnpaths.proofs.Digits.{Read}
 use Rattle.usnpaths.proofs.root.read_digits.Given as goal
 
-abbrev pub invariant-loop-i : goal.invariant-loop-i
-invariant-loop-i l = Read l.s l.i (key_number l.key)
-
-abbrev pub decreases-loop-i : goal.decreases-loop-i
-decreases-loop-i l = length l.s - l.i
+abbrev pub invariant-loop-b : goal.invariant-loop-b
+invariant-loop-b l = Read l.s l.b-index l.id

@@ -1,7 +1,6 @@
 -- `read_root` meets its contract: too few digits, too many, or the id of these.
 use native.Mathlib.Omega.{arith}
 use lib.ListN.{length-take, length-drop}
-use Rattle.usnpaths.specs.Root.{root_number}
 use Rattle.usnpaths.proofs.Digits.{root_none, root-long, root-some}
 use Rattle.usnpaths.proofs.root.read_root.Goals as goal
 
@@ -19,5 +18,5 @@ read_digits-requires c =
 
 pub returns : goal.returns
 returns c =
-    root-some c.args.word.now c.digits_from-from.result c.digits_from-from.ensures.0 (root_number c.read_digits.result) (omega arith) (omega arith)
+    root-some c.args.word.now c.digits_from-from.result c.digits_from-from.ensures.0 c.read_digits.result (omega arith) (omega arith)
     c.read_digits.ensures

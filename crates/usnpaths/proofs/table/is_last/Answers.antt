@@ -1,8 +1,9 @@
 -- `is_last` meets its contract.
-use mathlib.Core.Path.{◌∙◌}
-use Rattle.usnpaths.proofs.Filling.{last-test}
+use mathlib.Core.Path.{ap}
+use Prim.Native.Nat.{ℕ, ◌-◌, ◌^◌}
+use lib.Dec.{eqb}
 use Rattle.usnpaths.proofs.table.is_last.Goals as goal
 
 pub returns : goal.returns
 returns c =
-    c.is_equal.ensures ∙ last-test _ _ c.key_of.ensures
+    ap (λ (n : ℕ). eqb n (2 ^ 64 - 1)) c.id_number.ensures

@@ -1,9 +1,0 @@
--- `pattern` is safe and ends: each turn writes one byte more.
-use Rattle.std.proofs.Common.{length, ◌≡◌, ◌-◌}
-use Rattle.file_cases.proofs.pattern.Given as goal
-
-abbrev pub invariant-loop-i : goal.invariant-loop-i
-invariant-loop-i l = length l.s ≡ length l.initial.s
-
-abbrev pub decreases-loop-i : goal.decreases-loop-i
-decreases-loop-i l = length l.initial.s - l.i
