@@ -5,7 +5,16 @@ use native.Mathlib.Omega.{arith}
 use lib.ListN.{drop}
 use Rattle.file_table.specs.Table.{rows, good_rows}
 use Rattle.file_table.proofs.Judging.{good-end, good-next}
+use Rattle.file_table.proofs.good_rows.Goals.{After-good_row}
 use Rattle.file_table.proofs.good_rows.Goals as goal
+
+-- the row is good, and so are those behind it
+met : (c : After-good_row) → (b : Bool) → c.good_row.result ≡ b → let a = c.args in
+    good_rows a.pool.now (rows a.table.now) ≡ (b && good_rows a.pool.now (rows (drop (c.loop-at.at + 56) a.table.now)))
+met c b e =
+    let a = c.args in
+    c.loop-at.invariant.1 ∙ good-next a.table.now c.loop-at.at a.pool.now (omega (arith, c.loop-at-test.true, c.loop-at.invariant.0))
+    ∙ ap (λ (x : Bool). x && good_rows a.pool.now (rows (drop (c.loop-at.at + 56) a.table.now))) (sym c.good_row.ensures ∙ e)
 
 pub loop-at-init : goal.loop-at-init
 loop-at-init c =
@@ -21,11 +30,7 @@ good_row-requires c =
 
 pub returns-then-not-good_row : goal.returns-then-not-good_row
 returns-then-not-good_row c =
-    let met : (b : Bool) → c.good_row.result ≡ b → let a = c.args in good_rows a.pool.now (rows a.table.now) ≡ (b && good_rows a.pool.now (rows (drop (c.loop-at.at + 56) a.table.now))) =
-    λ b e. let a = c.args in
-    c.loop-at.invariant.1 ∙ good-next a.table.now c.loop-at.at a.pool.now (omega (arith, c.loop-at-test.true, c.loop-at.invariant.0))
-    ∙ ap (λ (x : Bool). x && good_rows a.pool.now (rows (drop (c.loop-at.at + 56) a.table.now))) (sym c.good_row.ensures ∙ e) in
-    sym (met _ c.if-not-good_row.true)
+    sym (met (goal.at.returns-then-not-good_row c).After-good_row _ c.if-not-good_row.true)
 
 pub overflow_add-at : goal.overflow_add-at
 overflow_add-at c =
@@ -37,11 +42,8 @@ loop-at-smaller c =
 
 pub loop-at-preserved : goal.loop-at-preserved
 loop-at-preserved c =
-    let met : (b : Bool) → c.good_row.result ≡ b → let a = c.args in good_rows a.pool.now (rows a.table.now) ≡ (b && good_rows a.pool.now (rows (drop (c.loop-at.at + 56) a.table.now))) =
-    λ b e. let a = c.args in
-    c.loop-at.invariant.1 ∙ good-next a.table.now c.loop-at.at a.pool.now (omega (arith, c.loop-at-test.true, c.loop-at.invariant.0))
-    ∙ ap (λ (x : Bool). x && good_rows a.pool.now (rows (drop (c.loop-at.at + 56) a.table.now))) (sym c.good_row.ensures ∙ e) in
-    (omega (arith, c.loop-at-test.true, c.loop-at.invariant.0), met _ c.if-not-good_row.false)
+    let m = met (goal.at.loop-at-preserved c).After-good_row _ c.if-not-good_row.false in
+    (omega (arith, c.loop-at-test.true, c.loop-at.invariant.0), m)
 
 pub returns : goal.returns
 returns c =

@@ -5,7 +5,16 @@ use native.Mathlib.Omega.{arith}
 use lib.ListN.{drop}
 use Rattle.file_table.specs.Table.{rows, distinct}
 use Rattle.file_table.proofs.Judging.{distinct-end, distinct-next}
+use Rattle.file_table.proofs.has_duplicates.Goals.{After-has_duplicate}
 use Rattle.file_table.proofs.has_duplicates.Goals as goal
+
+-- the row's id stands once more behind it, or the rows behind it are looked at
+met : (c : After-has_duplicate) → (b : Bool) → c.has_duplicate.result ≡ b → let a = c.args in
+    distinct (rows a.table.now) ≡ (not b && distinct (rows (drop (c.loop-at.at + 56) a.table.now)))
+met c b e =
+    let a = c.args in
+    c.loop-at.invariant.1 ∙ distinct-next a.table.now c.loop-at.at (omega (arith, c.loop-at-test.true, c.loop-at.invariant.0))
+    ∙ ap (λ (x : Bool). not x && distinct (rows (drop (c.loop-at.at + 56) a.table.now))) (sym c.has_duplicate.ensures ∙ e)
 
 pub loop-at-init : goal.loop-at-init
 loop-at-init c =
@@ -21,11 +30,7 @@ has_duplicate-requires c =
 
 pub returns-then-has_duplicate : goal.returns-then-has_duplicate
 returns-then-has_duplicate c =
-    let met : (b : Bool) → c.has_duplicate.result ≡ b → let a = c.args in distinct (rows a.table.now) ≡ (not b && distinct (rows (drop (c.loop-at.at + 56) a.table.now))) =
-    λ b e. let a = c.args in
-    c.loop-at.invariant.1 ∙ distinct-next a.table.now c.loop-at.at (omega (arith, c.loop-at-test.true, c.loop-at.invariant.0))
-    ∙ ap (λ (x : Bool). not x && distinct (rows (drop (c.loop-at.at + 56) a.table.now))) (sym c.has_duplicate.ensures ∙ e) in
-    sym (met _ c.if-has_duplicate.true)
+    sym (met (goal.at.returns-then-has_duplicate c).After-has_duplicate _ c.if-has_duplicate.true)
 
 pub overflow_add-at : goal.overflow_add-at
 overflow_add-at c =
@@ -37,11 +42,8 @@ loop-at-smaller c =
 
 pub loop-at-preserved : goal.loop-at-preserved
 loop-at-preserved c =
-    let met : (b : Bool) → c.has_duplicate.result ≡ b → let a = c.args in distinct (rows a.table.now) ≡ (not b && distinct (rows (drop (c.loop-at.at + 56) a.table.now))) =
-    λ b e. let a = c.args in
-    c.loop-at.invariant.1 ∙ distinct-next a.table.now c.loop-at.at (omega (arith, c.loop-at-test.true, c.loop-at.invariant.0))
-    ∙ ap (λ (x : Bool). not x && distinct (rows (drop (c.loop-at.at + 56) a.table.now))) (sym c.has_duplicate.ensures ∙ e) in
-    (omega (arith, c.loop-at-test.true, c.loop-at.invariant.0), met _ c.if-has_duplicate.false)
+    let m = met (goal.at.loop-at-preserved c).After-has_duplicate _ c.if-has_duplicate.false in
+    (omega (arith, c.loop-at-test.true, c.loop-at.invariant.0), m)
 
 pub returns : goal.returns
 returns c =
