@@ -1,30 +1,31 @@
 -- The reply: the id to go on from and the records, behind the checks.
 -- Assumes nothing.
 use mathlib.Core.Path.{◌≡◌, refl, sym, ap, ◌∙◌}
-use mathlib.Core.Bool.{false}
+use mathlib.Core.Bool.{false, true}
 use mathlib.Core.List.{List, [], ◌∷◌, ◌++◌}
 use Rattle.std.specs.Prelude.{Ok}
 use Prim.Native.Nat.{ℕ, ◌+◌, ◌≤◌}
 use native.Mathlib.Omega.{arith}
 use lib.Dec.{leb}
 use lib.ListN.{length, drop, length-append}
-use borrow.Author.Tests.{leb-true}
+use borrow.Author.Tests.{leb-true, eq-eqb, ne_eqb}
 use Rattle.le.specs.Numbers.{le}
 use Rattle.le.proofs.Tail.{lent, back}
 use Rattle.le.proofs.Front.{length_front, front-none, front-written}
-use Rattle.status.specs.declared.Status.TheVariants.{Success, InvalidParameter, EndOfFile, BufferTooSmall}
+use Rattle.status.specs.declared.Status.TheVariants.{Success, InvalidParameter, EndOfFile, BufferTooSmall, InvalidDeviceRequest, FileCorruptError}
 use Rattle.status.specs.declared.Answer.{Answer}
 use Rattle.status.specs.Check.{unless, else}
-use Rattle.status.specs.Reply.{refuse, answer, Replied}
+use Rattle.status.specs.Reply.{refuse, answer, Replied, guard}
 use Rattle.status.proofs.Checking.{else-left, else-right, unless-true}
 use Rattle.usn_record.specs.declared.Version.{Version}
 use Rattle.usn_record.specs.Version.{chosen}
 use Rattle.usn_record.proofs.Versions.{told-use}
-use Rattle.file_table.specs.Table.{Row}
+use Rattle.file_table.specs.Table.{Row, right_table}
 use Rattle.file_enumeration.specs.declared.Sent.{Sent}
-use Rattle.file_enumeration.specs.Enumerate.{enum_versions, enum_version, row_bytes, Page, rows_bytes, is_empty, input_check, page_reply}
+use Rattle.file_enumeration.specs.Enumerate.{enum_versions, enum_version, row_bytes, Page, rows_bytes, is_empty, input_check, page_reply, query_in, enum_check, files_reply, enum_reply}
 use Rattle.file_enumeration.specs.Steps.{Sends}
 use Rattle.file_enumeration.proofs.Filling.{bytes-none, row-long}
+use Rattle.volume.specs.declared.Volume.{Volume}
 
 -- nothing is selected
 pub reply-end : (v : Version) (pool : List ℕ) (files : List Row) (page : Page) (o : List ℕ) (r : Answer) → files ≡ [] → r ≡ answer (refuse EndOfFile) → Replied (page_reply v pool files page) r o o
@@ -71,6 +72,10 @@ module _ (v : Version) (pool : List ℕ) (files : List Row) (some-file : is_empt
       given-some [] q = absurd (n (counted ∙ ap (λ (x : List Row). length (rows_bytes v pool x)) q ∙ ap length (bytes-none v pool)))
       given-some (x ∷ g) q = ap is_empty q
 
+  -- the bytes stand in the room that was lent
+  pub sent-inside : length last ≡ length (lent 8 o) → s.count ≤ length (lent 8 o)
+  sent-inside t = omega (arith, counted, t, ap length e.1, length-append bs (drop s.count (lent 8 o)))
+
 -- ---- behind the checks
 
 -- the input has its sizes
@@ -84,3 +89,18 @@ input-sized input room v o =
       leb-true 24 (length input) (unless-true (leb 24 (length input)) InvalidParameter (else-left short (else (enum_versions input) small) e)),
       leb-true 8 room (unless-true (leb 8 room) BufferTooSmall (else-right (enum_versions input) small k)),
     )
+
+-- the volume and the table
+module _ (v : Volume) (table pool input : List ℕ) (room : ℕ) where
+  pub without-support : v.journal ≡ 0 → enum_reply v table pool input room ≡ refuse InvalidDeviceRequest
+  unfolding enum_reply enum_check
+  without-support e = rw (eq-eqb v.journal 0 e)
+
+  module _ (n : v.journal ≡ 0 → ⊥) where
+    pub bad-table : right_table pool table ≡ false → enum_reply v table pool input room ≡ refuse FileCorruptError
+    unfolding enum_reply enum_check
+    bad-table g = rw (ne_eqb v.journal 0 n, g)
+
+    pub good-reply : right_table pool table ≡ true → enum_reply v table pool input room ≡ guard (input_check input room) (files_reply (enum_version input) pool (query_in input) table room)
+    unfolding enum_reply enum_check
+    good-reply g = rw (ne_eqb v.journal 0 n, g)

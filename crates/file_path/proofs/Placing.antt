@@ -4,7 +4,7 @@ use mathlib.Core.Path.{◌≡◌, refl, sym, ap, ◌∙◌, subst}
 use mathlib.Core.Bool.{Bool, true, false, cond}
 use mathlib.Core.List.{List, [], ◌∷◌, ◌++◌}
 use Rattle.std.specs.Prelude.{Result, Ok, Err, Option, None, Some}
-use Prim.Native.Nat.{ℕ, zero, suc, ◌+◌, ◌-◌, ◌*◌, ◌≤◌, ◌<◌}
+use Prim.Native.Nat.{ℕ, zero, suc, ◌+◌, ◌-◌, ◌*◌, ◌≤◌, ◌<◌, ◌%◌}
 use native.Mathlib.Omega.{arith}
 use lib.Arith.{lt_of_le-ne}
 use lib.Dec.{eqb}
@@ -20,7 +20,7 @@ use Rattle.file_ids.specs.Ids.{id_number}
 use Rattle.file_table.specs.Table.{Row, rows, row_name, good_row, good_rows, right_table, find, Stands}
 use Rattle.file_table.specs.Steps.{row_at}
 use Rattle.file_table.proofs.Rows.{number-drop}
-use Rattle.file_table.proofs.Places.{table-good, good-member, row-good}
+use Rattle.file_table.proofs.Places.{table-good, good-member, row-good, table-whole}
 use Rattle.file_table.proofs.Finding.{found-row}
 use Rattle.file_path.specs.Path.{Way, reached, stopped, below, upward, separator, joined}
 use Rattle.file_path.specs.Steps.{extent_of, path_of}
@@ -79,6 +79,14 @@ module _ (pool table : List ℕ) (root : ℕ) where
 
     pub at_row : (at : ℕ) → Stands id table (Some at) → upward pool rs root left id ≡ below (row_name pool (row_at table at)) (upward pool rs root (left - 1) (id_number (row_at table at).parent))
     at_row at s = ap (λ (k : ℕ). upward pool rs root k id) one_more ∙ up_step pool rs root id e (left - 1) (row_at table at) s.0
+
+-- a place of a table that is not its end is that of a good row
+module _ (pool table : List ℕ) (g : right_table pool table ≡ true) (root at : ℕ) (h : at ≤ length table) (d : at % 56 ≡ 0) (o : at ≡ length table → ⊥) where
+  pub there : at + 56 ≤ length table
+  there = let l : at < length table = lt_of_le-ne h o in omega (arith, table-whole pool table g, d, l)
+
+  pub there-good : good_row pool (row_at table at) ≡ true
+  there-good = row-good table at d there pool (table-good pool table g)
 
 -- where the row was found
 pub stands : (table : List ℕ) (id : ℕ) (r : Option ℕ) (at : ℕ) → r ≡ Some at → Stands id table r → Stands id table (Some at)

@@ -8,7 +8,7 @@ use Prim.Native.Nat.{ℕ, ◌+◌, ◌-◌, ◌%◌, ◌^◌, ◌≤◌, ◌<◌
 use native.Mathlib.Omega.{arith}
 use lib.Dec.{ltb, eqb}
 use lib.ListN.{length, drop}
-use borrow.Author.Tests.{lt-ltb, le-ltb, ltb-true, ltb-false, eq-eqb, ne_eqb}
+use borrow.Author.Tests.{lt-ltb, le-ltb, ltb-true, ltb-false, eq-eqb, ne_eqb, eqb-true, eqb-false}
 use Rattle.le.specs.Numbers.{number_at}
 use Rattle.file_ids.specs.Ids.{id_number}
 use Rattle.names.specs.Names.{good_in}
@@ -16,7 +16,10 @@ use Rattle.file_table.specs.declared.Order.{Order}
 use Rattle.file_table.specs.declared.Order.TheVariants.{Rising, Mixed}
 use Rattle.file_table.specs.Table.{Row, rows, good_row, good_rows, has_id, distinct, right_table, above, rising, order_of}
 use Rattle.file_table.specs.Steps.{row_at, id_at}
-use Rattle.file_table.proofs.Rows.{rows_end, rows_next, number-drop}
+use Rattle.file_table.proofs.Rows.{rows_end, rows_next, number-drop, halves}
+use Rattle.le.specs.Bytes.{Bytes}
+use Rattle.le.proofs.Places.{number_lt}
+use Rattle.file_table.proofs.Rising.{rising-distinct}
 
 -- ---- one row
 
@@ -34,6 +37,18 @@ both_true true = refl
 both_true false = refl
 
 module _ (s : List ℕ) (at : ℕ) where
+  -- the id 2^64-1 by its halves
+  module _ (b : Bytes s) (h : at + 56 ≤ length s) where
+    pub not_last : (x : ℕ) → x ≡ number_at s at 8 → (x ≡ 2 ^ 64 - 1 → ⊥) → false ≡ eqb (id_at s at) (2 ^ 64 - 1)
+    not_last x e n = sym (ne_eqb (id_at s at) (2 ^ 64 - 1) (λ m. n (omega (arith, halves s at h, number_lt s at 8 b, e, m))))
+
+    pub last-by-upper : (x y : ℕ) → x ≡ number_at s at 8 → y ≡ number_at s (at + 8) 8 → x ≡ 2 ^ 64 - 1 → eqb y 0 ≡ eqb (id_at s at) (2 ^ 64 - 1)
+    last-by-upper x y e d n = by (eqb y 0) refl
+      where
+        by : (t : Bool) → eqb y 0 ≡ t → t ≡ eqb (id_at s at) (2 ^ 64 - 1)
+        by true t = sym (eq-eqb (id_at s at) (2 ^ 64 - 1) (omega (arith, halves s at h, e, d, n, eqb-true y 0 t)))
+        by false t = sym (ne_eqb (id_at s at) (2 ^ 64 - 1) (λ m. eqb-false y 0 t (omega (arith, halves s at h, e, d, n, m))))
+
   module _ (pool : List ℕ) (x : ℕ) (e : x ≡ number_at s (at + 32) 8) where
     abbrev r : Row
     r = row_at s at
@@ -149,3 +164,26 @@ module _ (pool s : List ℕ) where
       by : (g : Bool) → right_table pool s ≡ g → Some o ≡ cond g (Some (cond (rising (rows s)) Rising Mixed)) None → right_table pool s ≡ true
       by true t e = t
       by false t e = let z : ◌≡◌ {A = ℕ} 0 1 = cc in absurd (omega arith)
+
+  -- a right table by its rows' order
+  module _ (e : length s % 56 ≡ 0) (g : good_rows pool (rows s) ≡ true) where
+    pub in_order : rising (rows s) ≡ true → Some Rising ≡ order_of pool s
+    unfolding right_table
+    in_order r = rw (eq-eqb (length s % 56) 0 e, g, rising-distinct (rows s) r, r)
+
+    pub mixed : rising (rows s) ≡ false → distinct (rows s) ≡ true → Some Mixed ≡ order_of pool s
+    unfolding right_table
+    mixed r d = rw (eq-eqb (length s % 56) 0 e, g, d, r)
+
+  pub told-rising : Some Rising ≡ order_of pool s → (right_table pool s ≡ true) × (rising (rows s) ≡ true)
+  told-rising e = by (right_table pool s) (rising (rows s)) refl refl e
+    where
+      by : (g r : Bool) → right_table pool s ≡ g → rising (rows s) ≡ r → Some Rising ≡ cond g (Some (cond r Rising Mixed)) None
+          → (right_table pool s ≡ true) × (rising (rows s) ≡ true)
+      by true true t u e = (t, u)
+      by true false t u e = let o : Rising ≡ Mixed = cc in
+          let z : ◌≡◌ {A = ℕ} 0 1 = cc in absurd (omega arith)
+      by false r t u e = let z : ◌≡◌ {A = ℕ} 0 1 = cc in absurd (omega arith)
+
+  pub told-mixed : Some Mixed ≡ order_of pool s → right_table pool s ≡ true
+  told-mixed e = told-right Mixed e

@@ -1,11 +1,11 @@
 -- The rows of a table from a place on, and the numbers in them.
 -- Assumes nothing.
 use mathlib.Core.Path.{◌≡◌, refl, sym, ap, ◌∙◌}
-use mathlib.Core.Bool.{not}
+use mathlib.Core.Bool.{not, Bool, true, false}
 use mathlib.Core.List.{List, [], ◌∷◌}
 use Prim.Native.Nat.{ℕ, suc, ◌+◌, ◌-◌, ◌*◌, ◌/◌, ◌^◌, ◌≤◌, ◌<◌}
 use native.Mathlib.Omega.{arith}
-use lib.Dec.{eqb}
+use lib.Dec.{eqb, ltb}
 use lib.ListN.{length, take, drop, length-drop}
 use lib.Seq.{drop-drop}
 use Rattle.le.specs.Numbers.{number_at}
@@ -15,6 +15,7 @@ use Rattle.file_ids.specs.Ids.{wide, id_number, id_bytes}
 use Rattle.file_ids.proofs.Ids.{wide-halves}
 use Rattle.file_table.specs.Table.{row_in, first_rows, rows}
 use Rattle.file_table.specs.Steps.{row_at, id_at}
+use borrow.Author.Tests.{ltb-true, ltb-false, lt-ltb, le-ltb, eq-eqb, ne_eqb, eqb-true, eqb-false}
 
 -- ---- the first row and the rest
 
@@ -77,3 +78,58 @@ module _ (s : List ℕ) (b : Bytes s) (at : ℕ) (h : at + 56 ≤ length s) wher
   -- an id that is not wide is its lower half
   pub id-low : (x : ℕ) → x ≡ number_at s (at + 8) 8 → x ≡ 0 → id_at s at ≡ number_at s at 8
   id-low x e z = omega (arith, halves s at h, e, z)
+
+-- ---- two ids by their halves
+
+lt_of_le_ne : {x y : ℕ} → x ≤ y → (x ≡ y → ⊥) → x < y
+lt_of_le_ne {x} {y} h n = by (ltb x y) refl
+  where
+    by : (t : Bool) → ltb x y ≡ t → x < y
+    by true t = ltb-true x y t
+    by false t = let m : y ≤ x = ltb-false x y t in absurd (n (omega arith))
+
+module _ (s : List ℕ) (b : Bytes s) (a c : ℕ) (h : a + 56 ≤ length s) (k : c + 56 ≤ length s) where
+  abbrev la : ℕ
+  la = number_at s a 8
+
+  abbrev lc : ℕ
+  lc = number_at s c 8
+
+  abbrev ha : ℕ
+  ha = number_at s (a + 8) 8
+
+  abbrev hc : ℕ
+  hc = number_at s (c + 8) 8
+
+  low-a : la < 2 ^ 64
+  low-a = omega (arith, number_lt s a 8 b)
+
+  low-c : lc < 2 ^ 64
+  low-c = omega (arith, number_lt s c 8 b)
+
+  pub below-high : (x y : ℕ) → x ≡ ha → y ≡ hc → (x ≡ y → ⊥) → ltb x y ≡ ltb (id_at s a) (id_at s c)
+  below-high x y e d n = by (ltb x y) refl
+    where
+      by : (t : Bool) → ltb x y ≡ t → t ≡ ltb (id_at s a) (id_at s c)
+      by true t = sym (lt-ltb (id_at s a) (id_at s c) (omega (arith, halves s a h, halves s c k, low-a, low-c, e, d, ltb-true x y t)))
+      by false t =
+          let m : y < x = lt_of_le_ne (ltb-false x y t) (λ z. n (sym z)) in
+          sym (le-ltb (id_at s a) (id_at s c) (omega (arith, halves s a h, halves s c k, low-a, low-c, e, d, m)))
+
+  pub below-low : (x y u w : ℕ) → x ≡ ha → y ≡ hc → x ≡ y → u ≡ la → w ≡ lc → ltb u w ≡ ltb (id_at s a) (id_at s c)
+  below-low x y u w e d n i j = by (ltb u w) refl
+    where
+      by : (t : Bool) → ltb u w ≡ t → t ≡ ltb (id_at s a) (id_at s c)
+      by true t = sym (lt-ltb (id_at s a) (id_at s c) (omega (arith, halves s a h, halves s c k, i, j, e, d, n, ltb-true u w t)))
+      by false t = sym (le-ltb (id_at s a) (id_at s c) (omega (arith, halves s a h, halves s c k, i, j, e, d, n, ltb-false u w t)))
+
+  pub other-low : (x y : ℕ) → x ≡ la → y ≡ lc → (x ≡ y → ⊥) → false ≡ eqb (id_at s c) (id_at s a)
+  other-low x y e d n = sym (ne_eqb (id_at s c) (id_at s a) (λ m. n (omega (arith, halves s a h, halves s c k, low-a, low-c, e, d, m))))
+
+  pub same_low : (x y u w : ℕ) → x ≡ la → y ≡ lc → x ≡ y → u ≡ ha → w ≡ hc → eqb u w ≡ eqb (id_at s c) (id_at s a)
+  same_low x y u w e d n i j = by (eqb u w) refl
+    where
+      by : (t : Bool) → eqb u w ≡ t → t ≡ eqb (id_at s c) (id_at s a)
+      by true t = sym (eq-eqb (id_at s c) (id_at s a) (omega (arith, halves s a h, halves s c k, i, j, e, d, n, eqb-true u w t)))
+      by false t =
+          sym (ne_eqb (id_at s c) (id_at s a) (λ m. eqb-false u w t (omega (arith, halves s a h, halves s c k, low-a, low-c, i, j, e, d, n, m))))

@@ -77,7 +77,7 @@ fn rises(table: &[u8]) -> bool
 }
 
 // Whether the row at `at` has this id. Most ids differ in their lower halves, so these are read alone first: where each two rows are compared, that
-// is one load for a pair.
+// is one load for a pair. The upper halves are read alone too, since the compiler compares whole ids in more steps.
 fn is_at(table: &[u8], at: usize, id: u128) -> bool
     requires { at + 56 ≤ length table.now }
     ensures { result ≡ eqb (id_at table.now at) id }
@@ -85,7 +85,7 @@ fn is_at(table: &[u8], at: usize, id: u128) -> bool
     if le::get(table, at, 8) as u128 != id % 0x1_0000_0000_0000_0000 {
         return false;
     }
-    key_at(table, at) == id
+    le::get(table, at + 8, 8) as u128 == id / 0x1_0000_0000_0000_0000
 }
 
 // Whether the id of the row at `at` stands in a row behind it too.

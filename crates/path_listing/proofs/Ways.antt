@@ -144,6 +144,10 @@ pub root-out : (pool : List ℕ) (rs : List Row) (root left id : ℕ) (o out : L
 unfolding upward
 root-out pool rs root left id o out e q = rw e (refl, omega arith, q)
 
+-- two ids are compared by numbers that are theirs
+pub same_test : (a b m n : ℕ) → a ≡ m → b ≡ n → eqb a b ≡ eqb m n
+same_test a b m n e f = rw (e, f)
+
 -- ---- the line
 
 -- the id that was copied from a row is the one that was read there

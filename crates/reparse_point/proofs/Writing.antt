@@ -7,8 +7,8 @@ use Rattle.std.specs.Prelude.{Ok}
 use Prim.Native.Nat.{ℕ, ◌+◌, ◌-◌, ◌^◌, ◌≤◌, ◌<◌}
 use native.Mathlib.Omega.{arith}
 use lib.Dec.{leb, eqb}
-use lib.ListN.{length, take, drop, length-append}
-use lib.Seq.{length-take-le}
+use lib.ListN.{length, take, drop, length-append, length-drop}
+use lib.Seq.{length-take-le, take_all}
 use borrow.Author.Tests.{leb-true, le-leb, lt-leb}
 use Rattle.le.specs.Numbers.{le, encode}
 use Rattle.le.proofs.Runs.{and_left, and_right}
@@ -120,3 +120,46 @@ reply-given f store bytes o count out g h b n e =
       answered = ap (λ (i : ℕ). record { status = Success; count = i }) (l ∙ ap length same);
       output = e ∙ ap (λ (i : ℕ). (head ++ kept) ++ drop i o) l ∙ ap (λ (x : List ℕ). x ++ drop (length x) o) same;
     }
+
+-- ---- data that is written as far as it fits
+
+-- n bytes are as much as fits: the shorter of the two
+abbrev pub Fitting : List ℕ → ℕ → ℕ → Type 0
+Fitting bytes room n = (n ≤ room) × (n ≤ length bytes) × (take n bytes ≡ take room bytes) × (length (take room bytes) ≡ n)
+
+module _ (bytes : List ℕ) (room n : ℕ) where
+  pub fits_whole : length bytes < room → n ≡ length bytes → Fitting bytes room n
+  fits_whole h e =
+      let b : take room bytes ≡ bytes = take_all room bytes (omega (arith, h)) in
+      (omega (arith, h, e), omega (arith, e), take_all n bytes (omega (arith, e)) ∙ sym b, ap length b ∙ sym e)
+
+  pub fits-part : room ≤ length bytes → n ≡ room → Fitting bytes room n
+  fits-part h e = (omega (arith, e), omega (arith, h, e), ap (λ (k : ℕ). take k bytes) e, length-take-le room bytes h ∙ sym e)
+
+-- it fits into the rest of the output
+pub copy-fits : (bytes o out : List ℕ) (at n : ℕ) → length out ≡ length o → Fitting bytes (length o - at) n
+    → length (take (n - 0) bytes) ≤ length (lent at out)
+copy-fits bytes o out at n e k =
+    let z : n - 0 ≡ n = omega arith in
+    let l : length (take (n - 0) bytes) ≡ n = ap (λ (i : ℕ). length (take i bytes)) z ∙ length-take-le n bytes k.1 in
+    let m : length (lent at out) ≡ length out - at = length-take-le (length out - at) (drop at out) (omega (arith, length-drop at out)) in
+    omega (arith, l, m, e, k.0)
+
+module _ (tag : ℕ) (guid bytes o out last : List ℕ) (at n : ℕ) (g : length guid ≡ 16) (h : header_length tag ≤ length o) (a : at ≡ header_length tag)
+    (k : Fitting bytes (length o - at) n)
+    (e : out ≡ reparse_header tag guid (length bytes) ++ drop (header_length tag) o)
+    (q : last ≡ take (n - 0) bytes ++ drop (length (take (n - 0) bytes)) (lent at out)) where
+  pub put-data : (at + n ≡ header_length tag + length (take (length o - header_length tag) bytes))
+      × (back at out last ≡ (reparse_header tag guid (length bytes) ++ take (length o - header_length tag) bytes) ++ drop (at + n) o)
+  put-data =
+      let z : n - 0 ≡ n = omega arith in
+      let l : length (take n bytes) ≡ n = ap length k.2 ∙ k.3 in
+      let w : last ≡ take n bytes ++ drop n (lent at out) =
+      q
+      ∙ ap (λ (i : ℕ). take i bytes ++ drop (length (take i bytes)) (lent at out)) z
+      ∙ ap (λ (i : ℕ). take n bytes ++ drop i (lent at out)) l in
+      let p : Put o at (reparse_header tag guid (length bytes)) out =
+      put_first at (reparse_header tag guid (length bytes)) o out (header-size tag (length bytes) guid g ∙ sym a) (e ∙ ap (λ (i : ℕ). reparse_header tag guid (length bytes) ++ drop i o) (sym a)) in
+      let s : Put o (at + n) (reparse_header tag guid (length bytes) ++ take n bytes) (back at out last) = put_next p n (take n bytes) last l (omega (arith, h, a, k.0)) w in
+      let t : take n bytes ≡ take (length o - header_length tag) bytes = k.2 ∙ ap (λ (i : ℕ). take (length o - i) bytes) a in
+      (ap₂ ◌+◌ a (sym l ∙ ap length t), s.whole ∙ ap (λ (x : List ℕ). (reparse_header tag guid (length bytes) ++ x) ++ drop (at + n) o) t)

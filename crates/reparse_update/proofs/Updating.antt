@@ -9,11 +9,11 @@ use native.Mathlib.Omega.{arith}
 use lib.Dec.{leb, eqb}
 use lib.ListN.{length, take, drop, length-drop}
 use lib.Seq.{take_all}
-use borrow.Author.Tests.{leb-true}
+use borrow.Author.Tests.{leb-true, eq-eqb, ne_eqb}
 use Rattle.le.proofs.Runs.{and_left}
 use Rattle.status.specs.declared.Status.{Status}
 use Rattle.status.specs.declared.Status.TheVariants.{FileCorruptError, IoReparseDataInvalid}
-use Rattle.status.specs.Check.{unless, else, judged}
+use Rattle.status.specs.Check.{unless, else, granted, judged}
 use Rattle.status.proofs.Checking.{else-none, else-left, else-right, unless-true, both-pass, both-refuse, told-refused, told-passed}
 use Rattle.volume.specs.declared.Volume.{Volume}
 use Rattle.file_record.specs.declared.FileRecord.{FileRecord}
@@ -26,7 +26,8 @@ use Rattle.reparse_point.specs.Reparse.{header_length, points_check, good_point}
 use Rattle.reparse_point.proofs.Writing.{header-least}
 use Rattle.reparse_update.specs.declared.Update.{Update}
 use Rattle.reparse_update.specs.Update.{given_tag, given_length, given_data, is_laid_out, is_delete, given_check, point_change, point_posting, Point, with_point, new_point, update_check, Left, left_by, Updates}
-use Rattle.reparse_update.specs.Steps.{Posts}
+use Rattle.reparse_update.specs.declared.Posted.{Posted}
+use Rattle.reparse_update.specs.Steps.{Posts, moved}
 use Rattle.reparse_update.proofs.Input.{parts-of}
 
 -- ---- the call's own checks
@@ -64,6 +65,19 @@ module _ (input : List ℕ) (head : ℕ) (h : head ≡ header_length (given_tag 
   pub data-put : (store kept : List ℕ) → kept ≡ taken ++ drop (length taken) store → kept ≡ given_data input ++ drop (length (given_data input)) store
   data-put store kept e = e ∙ ap (λ (x : List ℕ). x ++ drop (length x) store) data_is
 
+-- ---- what the post gives
+
+granted-refused : {A : Type 0} (k : Option Status) (y : A) (x : Status) → Err x ≡ granted k y → k ≡ Some x
+granted-refused None y x e = cc
+granted-refused (Some z) y x e = let q : x ≡ z = cc in ap Some (sym q)
+
+granted-passed : {A : Type 0} (k : Option Status) (y x : A) → Ok x ≡ granted k y → (k ≡ None) × (x ≡ y)
+granted-passed None y x e = let q : x ≡ y = cc in (refl, q)
+granted-passed (Some z) y x e = cc
+
+longer : (v : Volume) (name : List ℕ) → end_of v name ≡ v.last → ⊥
+longer v name e = omega arith
+
 -- ---- the call
 
 module _ (u : Update) (v : Volume) (ring : List ℕ) (f : FileRecord) (store : List ℕ) (c : Change) (name input : List ℕ) where
@@ -85,6 +99,13 @@ module _ (u : Update) (v : Volume) (ring : List ℕ) (f : FileRecord) (store : L
   -- what the call leaves, by what becomes of its checks
   abbrev left : Option Status → Left
   left o = left_by o j p (after_post j (point_posting q)) (new_point u p usn input)
+
+  -- an accepted post, and no other, moves the journal's end: so the positions that are stored are those that the post leaves
+  moves : (k : Verdict) (n : ℕ) → let w = leaves k v (posted_volume v ring name) in moved v (record { first = w.first; last = w.last; usn = n }) ≡ w
+  unfolding posted_volume
+  moves Skip n = rw (eq-eqb v.last v.last refl)
+  moves (Reject x) n = rw (eq-eqb v.last v.last refl)
+  moves Accept n = rw (ne_eqb (end_of v name) v.last (longer v name))
 
   by_check : (o : Option Status) → update_check u j p q input ≡ o
       → (r : Result (Unit {0}) Status) (w : Volume) (after : List ℕ) (g : FileRecord) (kept : List ℕ)
@@ -110,28 +131,29 @@ module _ (u : Update) (v : Volume) (ring : List ℕ) (f : FileRecord) (store : L
       by_check (Some x) (refused-check x (told-refused _ x e)) (Err x) v ring f store refl refl refl refl refl
 
   module _ (passed : Ok tt ≡ judged (else (points_check v) (given_check u f (length store) input)))
-      (r : Result (Unit {0}) Status) (w : Volume) (after : List ℕ)
-      (g : FileRecord) (posts : Posts v ring f c name r w after g) where
+      (r : Result Posted Status) (after : List ℕ) (posts : Posts v ring f.usn c name r after) where
     -- its own checks pass: the post decides
     decides : update_check u j p q input ≡ rejection d
     unfolding update_check
     decides = both-pass (points_check v) (given_check u f (length store) input) (rejection d) (told-passed _ passed)
 
     -- a post that is refused leaves all as it was
-    pub post-refuses : (x : Status) → r ≡ Err x → Updates u j p q input (Err x) w after g store
-    post-refuses x e = go d (told-refused _ x (sym e ∙ posts.given)) posts.volume posts.written posts.file
+    pub post-refuses : (x : Status) → r ≡ Err x → Updates u j p q input (Err x) v after f store
+    post-refuses x e = go d refused posts.written
       where
-        go : (k : Verdict) → rejection k ≡ Some x → w ≡ leaves k v (posted_volume v ring name)
-            → after ≡ leaves k ring (posted_ring v ring (point_change c) name)
-            → g ≡ with_point f (leaves k f.usn (end_of v name)) f.tag f.guid f.length → Updates u j p q input (Err x) w after g store
-        go Skip h a b t = cc
-        go (Reject y) h a b t = by_check (Some x) (decides ∙ told-refused _ x (sym e ∙ posts.given)) (Err x) w after g store refl a b t refl
-        go Accept h a b t = cc
+        refused : rejection d ≡ Some x
+        refused = granted-refused _ _ x (sym e ∙ posts.given)
 
-    -- one that is not refused leaves the new point, and the file's Usn from the post
-    pub post-takes : r ≡ Ok tt → (tag : ℕ) (guid : List ℕ) (n : ℕ) (kept : List ℕ)
+        go : (k : Verdict) → rejection k ≡ Some x → after ≡ leaves k ring (posted_ring v ring (point_change c) name) → Updates u j p q input (Err x) v after f store
+        go Skip h b = cc
+        go (Reject y) h b = by_check (Some x) (decides ∙ refused) (Err x) v after f store refl refl b refl refl
+        go Accept h b = cc
+
+    -- one that is not refused leaves the new point, and the file's Usn and the journal's positions from the post
+    pub post-takes : (o : Posted) → r ≡ Ok o → (tag : ℕ) (guid : List ℕ) (n : ℕ) (kept : List ℕ)
         → with_point f usn tag guid n ≡ (new_point u p usn input).file → kept ≡ (new_point u p usn input).store
-        → Updates u j p q input (Ok tt) w after (with_point g g.usn tag guid n) kept
-    post-takes e tag guid n kept a b =
-        by_check None (decides ∙ told-passed _ (sym e ∙ posts.given)) (Ok tt) w after (with_point g g.usn tag guid n) kept refl
-        posts.volume posts.written (ap (λ (x : FileRecord). with_point x x.usn tag guid n) posts.file ∙ a) b
+        → (w : Volume) → w ≡ moved v o → Updates u j p q input (Ok tt) w after (with_point f o.usn tag guid n) kept
+    post-takes o e tag guid n kept a b w m =
+        let t = granted-passed _ _ o (sym e ∙ posts.given) in
+        by_check None (decides ∙ t.0) (Ok tt) w after (with_point f o.usn tag guid n) kept refl
+        (m ∙ ap (moved v) t.1 ∙ moves d usn) posts.written (ap (λ (x : Posted). with_point f x.usn tag guid n) t.1 ∙ a) b

@@ -5,7 +5,7 @@ ghost use Rattle.std.specs.Prelude.{◌≡◌, true, not, ◌&&◌, ◌||◌, �
 ghost use Rattle.status.specs.Check.{else, judged};
 ghost use Rattle.reparse_point.specs.Reparse.{points_check};
 ghost use Rattle.reparse_update.specs.Update.{given_tag, given_length, given_guid, is_laid_out, is_delete, has_other_tag, has_other_guid, given_check, Updates};
-ghost use Rattle.reparse_update.specs.Steps.{Posts};
+ghost use Rattle.reparse_update.specs.Steps.{Posts, moved};
 
 use file_record::FileRecord;
 use journal_post::{Change, post};
@@ -150,19 +150,45 @@ fn judge_update(u: Update, v: Volume, f: FileRecord, n: usize, input: &[u8]) -> 
 
 // ---- The calls.
 
-// Posts the change of a file's reparse point, and gives the file the record's Usn.
+// What a post that is not refused leaves: the journal's first and last position, and the file's Usn.
+#[derive(Clone, Copy)]
+struct Posted {
+    first: u64,
+    last: u64,
+    usn: u64,
+}
+
+// Posts the change of a file's reparse point. Both records stay: what the post leaves of them is stored behind the data.
 fn post_point(
-    v: &mut Volume,
+    v: Volume,
     ring: &mut [u8],
-    f: &mut FileRecord,
+    usn: u64,
     c: Change,
     name: &[u8],
-) -> Result<(), Status>
-    ensures { Posts v.old ring.old f.old c name.now result v.new ring.new f.new }
+) -> Result<Posted, Status>
+    ensures { Posts v ring.old usn c name.now result ring.new }
 {
     let mut change = c;
     change.reason = 0x0010_0000;
-    post(v, ring, change, name, &mut f.usn)
+    let mut next = v;
+    let mut usn = usn;
+    post(&mut next, ring, change, name, &mut usn)?;
+    Ok(Posted {
+        first: next.first,
+        last: next.last,
+        usn,
+    })
+}
+
+// Stores the journal's positions after a post. The volume record is shared: it is stored last, and only by an accepted post, which alone
+// moves the end.
+fn move_journal(v: &mut Volume, posted: Posted)
+    ensures { v.new ≡ moved v.old posted }
+{
+    if posted.last != v.last {
+        v.first = posted.first;
+        v.last = posted.last;
+    }
 }
 
 // Sets the reparse point of a file, whose data goes to the start of `store`: posts the change, and stores what was given if the post is not
@@ -179,12 +205,14 @@ pub fn set_reparse_point(
     ensures { Updates Update.Set (record { volume = v.old; ring = ring.old }) (record { file = f.old; store = store.old }) (record { change = c; name = name.now }) input.now result v.new ring.new f.new store.new }
 {
     judge_update(Update::Set, *v, *f, store.len(), input)?;
-    post_point(v, ring, f, c, name)?;
+    let posted = post_point(*v, ring, f.usn, c, name)?;
     let tag = tag_given(input);
     le::copy(store, &input[header_length(tag)..]);
+    f.usn = posted.usn;
     f.tag = tag;
     f.guid = guid_given(input);
     f.length = length_given(input);
+    move_journal(v, posted);
     Ok(())
 }
 
@@ -201,9 +229,11 @@ pub fn delete_reparse_point(
     ensures { Updates Update.Delete (record { volume = v.old; ring = ring.old }) (record { file = f.old; store = store.now }) (record { change = c; name = name.now }) input.now result v.new ring.new f.new store.now }
 {
     judge_update(Update::Delete, *v, *f, store.len(), input)?;
-    post_point(v, ring, f, c, name)?;
+    let posted = post_point(*v, ring, f.usn, c, name)?;
+    f.usn = posted.usn;
     f.tag = 0;
     f.guid = [0u8; 16];
     f.length = 0;
+    move_journal(v, posted);
     Ok(())
 }

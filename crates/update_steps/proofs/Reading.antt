@@ -1,8 +1,8 @@
 -- The reads of a service.
 -- Assumes nothing.
-use mathlib.Core.Path.{◌≡◌, refl, sym, ap, ◌∙◌}
+use mathlib.Core.Path.{◌≡◌, refl, sym, ap, ◌∙◌, subst}
 use mathlib.Core.Bool.{Bool, true, false, cond}
-use mathlib.Core.List.{List, ◌++◌, append_assoc, append-nil}
+use mathlib.Core.List.{List, ◌++◌, append_assoc, append-nil, []}
 use Prim.Native.Nat.{ℕ, zero, suc, ◌+◌, ◌-◌, ◌≤◌, ◌<◌}
 use native.Mathlib.Omega.{arith}
 use lib.Dec.{eqb}
@@ -15,7 +15,8 @@ use Rattle.le.proofs.Tail.{lent, back, put_first, put_next}
 use Rattle.status.specs.declared.Answer.{Answer}
 use Rattle.status.specs.Reply.{Reply, refuse, give, Replied}
 use Rattle.volume.specs.declared.Volume.{Volume}
-use Rattle.update_steps.specs.Service.{input_of, position_in, read_to, reads_to}
+use Rattle.update_steps.specs.Service.{input_of, position_in, read_to, reads_to, reply_from}
+use Rattle.journal_read.specs.Read.{read_reply}
 
 pub input_put : (id start mask : ℕ) (o l1 l2 l3 : List ℕ) → 40 ≤ length o → l1 ≡ le 8 start ++ drop 8 o → l2 ≡ le 24 mask ++ drop 24 (lent 8 l1)
     → l3 ≡ le 8 id ++ drop 8 (lent 32 (back 8 l1 l2)) → back 32 (back 8 l1 l2) l3 ≡ input_of id start mask ++ drop 40 o
@@ -79,3 +80,28 @@ module _ (v : Volume) (ring : List ℕ) (id i p whole : ℕ) (inv : reads_to (16
   pub used : 16 ≤ i → p ≡ whole
   unfolding reads_to
   used h = let e : 16 - i ≡ 0 = omega arith in rw e at inv
+
+-- an input of 40 bytes is all that a read gets
+pub read-so : (v : Volume) (ring input : List ℕ) (id start mask : ℕ) (r : Answer) (old new : List ℕ) → input ≡ input_of id start mask ++ []
+    → Replied (read_reply v ring input (length old)) r old new → Replied (reply_from v ring id start mask (length old)) r old new
+read-so v ring input id start mask r old new e p =
+    subst (λ (s : List ℕ). Replied (read_reply v ring s (length old)) r old new) (e ∙ append-nil (input_of id start mask)) p
+
+-- ---- any number of reads
+
+module _ (v : Volume) (ring : List ℕ) (id : ℕ) where
+  -- none at the journal's end
+  pub reads-done : (n p : ℕ) → p ≡ v.last → reads_to n v ring id p ≡ p
+  unfolding reads_to
+  reads-done zero p e = refl
+  reads-done (suc n) p e = rw (eq-eqb p v.last e)
+
+  -- none that moves the reader
+  pub reads-stuck : (n p : ℕ) → read_to v ring id p ≡ p → reads_to n v ring id p ≡ p
+  unfolding reads_to
+  reads-stuck zero p e = refl
+  reads-stuck (suc n) p e = by (eqb p v.last) (ap (λ (q : ℕ). reads_to n v ring id q) e ∙ reads-stuck n p e)
+    where
+      by : (b : Bool) → reads_to n v ring id (read_to v ring id p) ≡ p → cond b p (reads_to n v ring id (read_to v ring id p)) ≡ p
+      by true h = refl
+      by false h = h

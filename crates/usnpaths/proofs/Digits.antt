@@ -4,7 +4,7 @@ use mathlib.Core.Path.{◌≡◌, refl, sym, ap, ◌∙◌}
 use mathlib.Core.Bool.{Bool, true, false, cond, ◌&&◌}
 use mathlib.Core.List.{List, [], ◌∷◌}
 use Rattle.std.specs.Prelude.{Option, None, Some}
-use Prim.Native.Nat.{ℕ, ◌+◌, ◌-◌, ◌*◌, ◌^◌, ◌≤◌, ◌<◌}
+use Prim.Native.Nat.{ℕ, ◌+◌, ◌-◌, ◌*◌, ◌^◌, ◌≤◌, ◌<◌, ◌/◌, ◌%◌}
 use native.Mathlib.Nat.{pow-suc, pow-le-pow_right}
 use native.Mathlib.Numerals.{add-one}
 use native.Mathlib.Omega.{arith}
@@ -55,6 +55,16 @@ has_room n i h k =
     let m : 16 ^ i ≤ 16 ^ 31 = pow-le-pow_right {n = 16} (lit< tt) {j = 31} k in
     omega arith
 
+-- the same of a number by halves of 64 bits: a digit more
+pub shift-number : (low high d : ℕ) → (low % 2 ^ 60 * 16 + d) + 2 ^ 64 * (high * 16 + low / 2 ^ 60) ≡ 16 * (low + 2 ^ 64 * high) + d
+shift-number low high d = omega arith
+
+-- and the upper half of one of at most 31 digits has a digit's room left
+pub high_small : (low high i : ℕ) → low + 2 ^ 64 * high < 16 ^ i → i ≤ 31 → high < 2 ^ 60
+high_small low high i h k =
+    let m : 16 ^ i ≤ 16 ^ 31 = pow-le-pow_right {n = 16} (lit< tt) {j = 31} k in
+    omega arith
+
 -- the digits of s before i make n
 pub record Read (s : List ℕ) (i n : ℕ) : Type 0 where
   pub inside : i ≤ length s
@@ -62,6 +72,9 @@ pub record Read (s : List ℕ) (i n : ℕ) : Type 0 where
   pub onward : digits_from n (drop i s) ≡ digits_from 0 s
 
 module _ (s : List ℕ) where
+  pub read-start : Read s 0 0
+  read-start = record { inside = omega arith; fits = omega arith; onward = refl }
+
   module _ (i n : ℕ) (u : Read s i n) (h : i < length s) where
     pub read_more : (d : ℕ) → digit_of (get_or s i 0) ≡ Some d → Read s (i + 1) (16 * n + d)
     unfolding digits_from

@@ -1,10 +1,10 @@
 -- The row that is written of a record, read back; and what is taken as a reply is added.
 -- Assumes nothing.
-use mathlib.Core.Path.{◌≡◌, refl, sym, ap, ap₂, ◌∙◌}
+use mathlib.Core.Path.{◌≡◌, refl, sym, ap, ap₂, ◌∙◌, subst}
 use mathlib.Core.Bool.{true, false}
 use mathlib.Core.List.{List, [], ◌∷◌, ◌++◌, append_assoc, append-nil}
 use Rattle.std.specs.Prelude.{Some, Result, Ok}
-use Prim.Native.Nat.{ℕ, ◌+◌, ◌-◌, ◌%◌, ◌^◌, ◌≤◌, ◌<◌}
+use Prim.Native.Nat.{ℕ, ◌+◌, ◌-◌, ◌*◌, ◌%◌, ◌^◌, ◌≤◌, ◌<◌}
 use native.Mathlib.Omega.{arith}
 use lib.Dec.{eqb}
 use lib.ListN.{length, take, drop, get_or, length-append}
@@ -18,16 +18,17 @@ use Rattle.usn_record.specs.declared.Fields.{Fields}
 use Rattle.usn_record.specs.Layout.{Record, length_of}
 use Rattle.record_reader.specs.declared.Entry.{Entry}
 use Rattle.record_reader.specs.Read.{parse, entry_of}
-use Rattle.records.specs.Records.{whole, record_list, records}
+use Rattle.records.specs.Records.{whole, record_list, records, Records, bad}
 use Rattle.records.proofs.Runs.{tail-cons, tail-nil}
 use Rattle.usn_listing.specs.Listing.{is_whole}
 use Rattle.usn_listing.proofs.Writing.{same_back}
 use Rattle.usn_listing.proofs.Listing.{part, Met, lines_start}
 use Rattle.usnpaths.specs.declared.table.Extent.{Extent}
 use Rattle.usnpaths.specs.declared.table.Unfit.{Unfit}
-use Rattle.usnpaths.specs.Rows.{row_of, rows_of, names_of, added_of, Holds, Inside, AddedInside}
+use Rattle.usnpaths.specs.Rows.{row_of, rows_of, names_of, added_of, Holds, Inside, AddedInside, reply_added}
 use Rattle.usnpaths.proofs.Adding.{rows_more, names_more, added_none, added_more}
 use Rattle.file_table.specs.Table.{Row, row_in, rows as table-rows}
+use Rattle.reply_walker.specs.Reply.{records_of}
 
 -- ---- a row
 
@@ -103,6 +104,10 @@ module _ (usn attributes size place : ℕ) where
         let p = put_next (put_first 32 (id ++ parent) o l₁ two q₁) 24 (encode sizes (numbers usn attributes size place)) l₂ n h q₂ in
         let w : back 32 l₁ l₂ ≡ bytes = p.whole ∙ append_assoc (id ++ parent) (encode sizes (numbers usn attributes size place)) (drop 56 o) ∙ ap (λ (l : List ℕ). (id ++ parent) ++ (encode sizes (numbers usn attributes size place) ++ l)) (sym z) in
         (ap row_in w ∙ read, ap (drop 56) p.whole ∙ drop_at ((id ++ parent) ++ encode sizes (numbers usn attributes size place)) (drop 56 o) 56 p.size)
+
+-- an id is compared with the last of 64 bits by its number
+pub last-test : (k n : ℕ) → k ≡ n → eqb k (2 ^ 64 - 1 + 2 ^ 64 * 0) ≡ eqb n (2 ^ 64 - 1)
+last-test k n e = rw e
 
 -- ---- a reply
 
@@ -230,3 +235,23 @@ filled-end table₀ pool₀ s table pool at rows names e u h =
       ),
       (u.rows_inside, u.names-inside, u.whole_row),
     )
+
+-- a reply that is whole
+pub whole-added : (table pool s after names : List ℕ) (e : Extent) (r : Result Extent Unfit) → is_whole (records_of s) ≡ true
+    → records_of s ≡ records 8 (drop 8 s)
+    → (r ≡ added_of (length table) (length pool) 8 e (all s)) × Holds table pool e (all s) after names r × AddedInside (length table) (length pool) r
+    → (r ≡ reply_added (length table) (length pool) e (records_of s)) × Holds table pool e (record_list (records_of s)) after names r × AddedInside (length table) (length pool) r
+whole-added table pool s after names e r w q t =
+    let a : all s ≡ record_list (records_of s) = ap record_list (sym q) in (
+      t.0 ∙ ap (added_of (length table) (length pool) 8 e) a ∙ same (records_of s) w,
+      subst (λ (rs : List Record). Holds table pool e rs after names r) a t.1,
+      t.2,
+    )
+  where
+    same : (q : Records) → is_whole q ≡ true → added_of (length table) (length pool) 8 e (record_list q) ≡ reply_added (length table) (length pool) e q
+    same (whole rs) w = refl
+    same (bad place) w = let z : ◌≡◌ {A = ℕ} 0 1 = cc in absurd (omega arith)
+
+-- what is taken once all of a reply is added
+pub taken-inside : (table pool : ℕ) (r : Result Extent Unfit) (e : Extent) → r ≡ Ok e → AddedInside table pool r → Inside table pool e.rows e.names
+taken-inside table pool r e q i = rw q at i

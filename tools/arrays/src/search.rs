@@ -149,7 +149,7 @@ const STANDARD: [&str; 6] = ["Option", "None", "Some", "Result", "Ok", "Err"];
 /// their arguments, and themselves hold no array above sixteen bytes.
 const METHODS: [&str; 10] = [
     "chunks_exact",
-    "copy_from_slice",
+    "enumerate",
     "fill",
     "from_le_bytes",
     "iter",

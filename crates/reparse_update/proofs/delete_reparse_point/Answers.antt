@@ -13,16 +13,16 @@ returns-in_err-judge_update c =
     (check-refuses Delete a.v.now a.ring.now a.f.now a.store.now a.c a.name.now a.input.now _
     (sym c.in_err-judge_update.was ∙ c.judge_update.ensures))
 
-pub returns-in_err-post_point : goal.returns-in_err-post_point
-returns-in_err-post_point c =
+pub returns-in_err-posted : goal.returns-in_err-posted
+returns-in_err-posted c =
     let a = c.args in
-    let p = err_from_is_err_and c.from_residual-in_err-post_point.result c.from_residual-in_err-post_point.ensures.1 in
+    let p = err_from_is_err_and c.from_residual-in_err-posted.result c.from_residual-in_err-posted.ensures.1 in
     rw (p.1, p.2)
     (post-refuses Delete a.v.now a.ring.now a.f.now a.store.now a.c a.name.now a.input.now
-    (sym c.in_ok-judge_update.was ∙ c.judge_update.ensures) _ _ _ _ c.post_point.ensures _ c.in_err-post_point.was)
+    (sym c.in_ok-judge_update.was ∙ c.judge_update.ensures) _ _ c.post_point.ensures _ c.in_err-posted.was)
 
 pub returns : goal.returns
 returns c =
     let a = c.args in
     post-takes Delete a.v.now a.ring.now a.f.now a.store.now a.c a.name.now a.input.now
-    (sym c.in_ok-judge_update.was ∙ c.judge_update.ensures) _ _ _ _ c.post_point.ensures c.in_ok-post_point.was _ _ _ _ refl refl
+    (sym c.in_ok-judge_update.was ∙ c.judge_update.ensures) _ _ c.post_point.ensures _ c.in_ok-posted.was _ _ _ _ refl refl _ c.move_journal.ensures

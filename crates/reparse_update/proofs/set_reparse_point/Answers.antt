@@ -38,13 +38,13 @@ returns-in_err-judge_update c =
     (check-refuses Set a.v.now a.ring.now a.f.now a.store.now a.c a.name.now a.input.now _
     (sym c.in_err-judge_update.was ∙ c.judge_update.ensures))
 
-pub returns-in_err-post_point : goal.returns-in_err-post_point
-returns-in_err-post_point c =
+pub returns-in_err-posted : goal.returns-in_err-posted
+returns-in_err-posted c =
     let a = c.args in
-    let p = err_from_is_err_and c.from_residual-in_err-post_point.result c.from_residual-in_err-post_point.ensures.1 in
+    let p = err_from_is_err_and c.from_residual-in_err-posted.result c.from_residual-in_err-posted.ensures.1 in
     rw (p.1, p.2)
     (post-refuses Set a.v.now a.ring.now a.f.now a.store.now a.c a.name.now a.input.now
-    (passed (goal.at.returns-in_err-post_point c).After-post_point) _ _ _ _ c.post_point.ensures _ c.in_err-post_point.was)
+    (passed (goal.at.returns-in_err-posted c).After-post_point) _ _ c.post_point.ensures _ c.in_err-posted.was)
 
 pub tag_given-tag-requires : goal.tag_given-tag-requires
 tag_given-tag-requires c =
@@ -80,6 +80,6 @@ returns c =
     let a = c.args in
     let k = goal.at.returns c in
     post-takes Set a.v.now a.ring.now a.f.now a.store.now a.c a.name.now a.input.now
-    (passed k.After-post_point) _ _ _ _ c.post_point.ensures c.in_ok-post_point.was _ _ _ _
+    (passed k.After-post_point) _ _ c.post_point.ensures _ c.in_ok-posted.was _ _ _ _
     (rw (c.tag_given-tag.ensures, c.guid_given-f.ensures, c.length_given-f.ensures.0) refl)
-    (data-put a.input.now _ (head_is k.After-header_length) a.store.now _ c.copy.ensures)
+    (data-put a.input.now _ (head_is k.After-header_length) a.store.now _ c.copy.ensures) _ c.move_journal.ensures
