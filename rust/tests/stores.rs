@@ -11,6 +11,10 @@
 //! far is seen too. The ring, a file's store and the Usn of a post are read-only
 //! as a whole where the call must not write them, and the store always behind its
 //! first page.
+//!
+//! A set or a delete of a point that succeeds must store the file's Usn, where its
+//! post is skipped too, and the volume record behind the file record: a call that is
+//! cut off leaves no position of a change that is not there.
 
 mod common;
 
@@ -195,6 +199,33 @@ struct Told {
 /// Where a child tells it, for the handlers.
 static TOLD: AtomicPtr<Told> = AtomicPtr::new(ptr::null_mut());
 
+/// What a call stored in its two records: how many stores there were, which of them
+/// was the last in the file record and which the first in the volume record, counted
+/// from 1 (0 where there was none), and whether one was in the file's Usn.
+#[derive(Clone, Copy, Debug)]
+struct Trace {
+    count: usize,
+    last_of_file: usize,
+    first_of_volume: usize,
+    usn: bool,
+}
+
+/// The trace of the call at hand, and where its file record lies, for the handlers.
+static TRACE: AtomicPtr<Trace> = AtomicPtr::new(ptr::null_mut());
+static FILE: AtomicUsize = AtomicUsize::new(0);
+
+/// Notes a store at an address of one of the two records.
+fn note(trace: &mut Trace, address: usize) {
+    let file = FILE.load(Relaxed);
+    trace.count += 1;
+    if (file..file + size_of::<FileRecord>()).contains(&address) {
+        trace.last_of_file = trace.count;
+        trace.usn |= address - file == offset_of!(FileRecord, usn);
+    } else if trace.first_of_volume == 0 {
+        trace.first_of_volume = trace.count;
+    }
+}
+
 /// Sets the addresses of a call's fields: those of its two records.
 fn allow(records: [(*mut u8, &[Fields]); 2]) {
     let fields = records.into_iter().flat_map(|(record, fields)| {
@@ -223,6 +254,8 @@ extern "C" fn on_fault(_: i32, info: *const usize, context: *mut u64) {
         unsafe { (*TOLD.load(Relaxed)).fault.store(address, Relaxed) };
         return handle(SIGSEGV, None);
     }
+    // SAFETY: the trace of the call at hand, which nothing borrows during the call.
+    note(unsafe { &mut *TRACE.load(Relaxed) }, address);
     let page = address - address % PAGE;
     OPENED.store(page, Relaxed);
     protect(page as *mut u8, 1, true);
@@ -266,8 +299,8 @@ impl Input {
     }
 }
 
-/// A status, and the records that a call left.
-type Outcome = (u32, Volume, FileRecord);
+/// A status, the records that a call left, and what it stored in them.
+type Outcome = (u32, Volume, FileRecord, Trace);
 
 /// The same by the model.
 type ModelOutcome = (u32, model::Volume, model::File);
@@ -289,7 +322,7 @@ impl Call {
         }
     }
 
-    /// The fields of the file record that the call may store where it succeeds. The
+    /// The fields of the file record that the call stores where it succeeds. The
     /// Usn is among them where the post is skipped too: it is then the one that is
     /// there.
     fn changes_of_file(&self) -> &'static [Fields] {
@@ -383,6 +416,17 @@ impl Case {
         !self.fields[0].is_empty()
     }
 
+    /// Whether a call that succeeds, and changes the file record, stored its Usn, and
+    /// the volume record, if it changes that too, behind the file record.
+    fn stores_in_order(&self, trace: Trace) -> bool {
+        let volume = trace.first_of_volume;
+        let last = match self.fields[0] {
+            [] => volume == 0,
+            _ => trace.last_of_file < volume,
+        };
+        trace.usn && last
+    }
+
     /// Whether the call writes the store.
     fn writes_store(&self) -> bool {
         let success = self.model.0 == Success.number();
@@ -471,7 +515,9 @@ fn run(cases: &[Case], ring: &[u8]) -> Result<Vec<Outcome>, Killed> {
     let child = unsafe { fork() };
     assert!(child >= 0, "no child process");
     if child == 0 {
+        let trace: *mut Trace = pages(1).cast();
         TOLD.store(ptr::from_ref(told).cast_mut(), Relaxed);
+        TRACE.store(trace, Relaxed);
         handle(SIGSEGV, Some(on_fault));
         handle(SIGTRAP, Some(on_step));
         // The data of a set, at most 32 bytes here, goes to the first page of the store.
@@ -496,10 +542,17 @@ fn run(cases: &[Case], ring: &[u8]) -> Result<Vec<Outcome>, Killed> {
                 protect(store, 1, case.writes_store());
                 allow([(at[0], case.fields[0]), (at[1], case.fields[1])]);
                 told.done.store(number, Relaxed);
+                trace.write(Trace {
+                    count: 0,
+                    last_of_file: 0,
+                    first_of_volume: 0,
+                    usn: false,
+                });
+                FILE.store(at[1] as usize, Relaxed);
                 let status = case.call.by_library(volume, file, &lent);
                 outcomes
                     .add(number)
-                    .write((status, volume.read(), file.read()));
+                    .write((status, volume.read(), file.read(), trace.read()));
             }
         }
         // SAFETY: the child ends here, and runs nothing of its parent's.
@@ -587,10 +640,11 @@ fn try_calls(
             place(1)
         )
     });
-    for (index, (case, (status, after, file))) in cases.iter().zip(outcomes).enumerate() {
-        let agree = (status, model_volume(&after), model_file(&file)) == case.model;
+    for (index, (case, (status, after, file, trace))) in cases.iter().zip(outcomes).enumerate() {
+        let agree = (status, model_volume(&after), model_file(&file)) == case.model
+            && (case.fields[1].is_empty() || case.stores_in_order(trace));
         check(agree, test, index as u64, || {
-            format!("library {status:#x} {after:?} {file:?}\n{case:?}")
+            format!("library {status:#x} {after:?} {file:?} {trace:?}\n{case:?}")
         });
         let known = Status::ALL.iter().find(|known| known.number() == status);
         counts.add(*known.expect("a known status"));
